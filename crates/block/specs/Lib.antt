@@ -1,12 +1,4 @@
 pub mod Order
 pub mod Refusals
 pub mod Meaning
-pub mod Rows
-pub mod Panes
-pub mod Interlocked
-pub mod Letters
-pub mod Telephone
-pub mod Piles
-pub mod Faults
-pub mod Cases
 pub mod Steps

@@ -1,9 +1,4 @@
-// Block instruments: what one means, and the makes that show that meaning.
-pub mod faults;
+// What a block instrument means: the order of working, its refusals, and the trait that every make implements.
 pub mod instruments;
-pub mod interlocked;
 pub mod order;
-pub mod piles;
 pub mod refusals;
-pub mod sections;
-pub mod telephone;

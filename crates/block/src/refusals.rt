@@ -4,13 +4,11 @@ ghost use Rattle.block.specs.Meaning.{worked};
 ghost use Rattle.block.specs.Refusals.{number, section-value, direction-value, phase-value, told-of, retold, refusal};
 use crate::order::Action;
 use crate::order::Direction;
-use crate::order::DirectionDebug;
 use crate::order::DirectionPartialEq;
 use crate::order::Phase;
-use crate::order::PhaseDebug;
 use crate::order::PhasePartialEq;
 
-#[derive(Clone, Copy, Debug, PartialEq, Eq)]
+#[derive(Clone, Copy, PartialEq, Eq)]
 pub enum InstrumentRefusal {
     // There is no such section. The question for the phase asks for no direction.
     NoSection {

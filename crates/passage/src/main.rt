@@ -15,13 +15,13 @@ use crate::views::MixedPileView;
 use crate::views::PaneView;
 use crate::views::TelephoneView;
 use block::instruments::try_action;
-use block::interlocked::Interlocked;
-use block::interlocked::PaneSection;
 use block::order::Action;
 use block::order::Direction;
-use block::piles::MixedPile;
-use block::telephone::LetterSection;
-use block::telephone::Telephone;
+use makes::interlocked::Interlocked;
+use makes::interlocked::PaneSection;
+use makes::piles::MixedPile;
+use makes::telephone::LetterSection;
+use makes::telephone::Telephone;
 use std::io;
 
 mod texts;

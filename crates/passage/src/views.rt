@@ -7,18 +7,18 @@ ghost use lib.ListN.{length};
 ghost use Rattle.std.specs.Results.{okPart};
 ghost use Rattle.std.specs.declared.option.Option.{Option};
 ghost use Rattle.std.specs.declared.option.Option.the-variants.{None};
-ghost use Rattle.block.specs.Interlocked.{pictured};
-ghost use Rattle.block.specs.Panes.{panes-answer};
-ghost use Rattle.block.specs.Rows.{row};
+ghost use Rattle.makes.specs.Interlocked.{pictured};
+ghost use Rattle.makes.specs.Panes.{panes-answer};
+ghost use Rattle.makes.specs.Rows.{row};
 use block::instruments::BlockInstrument;
-use block::interlocked::PaneSection;
-use block::interlocked::record::PaneRecord;
-use block::piles::MixedPile;
-use block::piles::MixedPileInstrument;
-use block::sections::Sections;
-use block::sections::SectionsInstrument;
-use block::telephone::LetterSection;
-use block::telephone::record::LetterRecord;
+use makes::interlocked::PaneSection;
+use makes::interlocked::record::PaneRecord;
+use makes::piles::MixedPile;
+use makes::piles::MixedPileInstrument;
+use makes::sections::Sections;
+use makes::sections::SectionsInstrument;
+use makes::telephone::LetterSection;
+use makes::telephone::record::LetterRecord;
 
 // An instrument that tells the panes of those sections that have some.
 pub trait PaneView: BlockInstrument {

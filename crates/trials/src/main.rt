@@ -1,14 +1,14 @@
 // Tries every action in every phase, at the ends of instruments of every make, and prints the numbers of the answers.
 use block::instruments::BlockInstrument;
-use block::interlocked::Interlocked;
-use block::interlocked::PaneSection;
 use block::order::Action;
 use block::order::Direction;
-use block::piles::MixedPile;
-use block::piles::MixedPileInstrument;
-use block::sections::SectionsInstrument;
-use block::telephone::LetterSection;
-use block::telephone::Telephone;
+use makes::interlocked::Interlocked;
+use makes::interlocked::PaneSection;
+use makes::piles::MixedPile;
+use makes::piles::MixedPileInstrument;
+use makes::sections::SectionsInstrument;
+use makes::telephone::LetterSection;
+use makes::telephone::Telephone;
 use std::io;
 
 const DIRECTIONS: [Direction; 2] = [Direction::Up, Direction::Down];
