@@ -1,0 +1,5 @@
+// The line: its signals, pedal marks and trains, and the fourteen calls.
+pub mod calls;
+pub mod refusals;
+pub mod signals;
+pub mod trains;
