@@ -1,4 +1,7 @@
 // What the line says where it refuses.
+ghost use mathlib.Core.Path.{_≡_};
+ghost use Rattle.line.specs.Numbers.{line-number};
+ghost use Rattle.line.specs.declared.refusals.LineRefusal.the-variants.{Instrument};
 use block::refusals::InstrumentRefusal;
 
 #[derive(Clone, Copy)]
@@ -21,4 +24,35 @@ pub enum LineRefusal {
     SectionOccupied,
     // The instrument's own refusal, whole.
     Instrument(InstrumentRefusal),
+}
+
+impl LineRefusal {
+    pub fn number(self) -> u16
+        ensures { λ r. ⌜ r ≡ line-number self ⌝ }
+    {
+        match self {
+            LineRefusal::NoSectionAtAll => 201,
+            LineRefusal::MadeUnsettled => 202,
+            LineRefusal::SectionUnknown => 203,
+            LineRefusal::PostUnknown => 204,
+            LineRefusal::TrainUnknown => 205,
+            LineRefusal::TrainPresent => 206,
+            LineRefusal::TableFull => 207,
+            LineRefusal::TrainAbsent => 208,
+            LineRefusal::TrainElsewhere => 209,
+            LineRefusal::BlockSignalWrong => 210,
+            LineRefusal::HomeSignalWrong => 211,
+            LineRefusal::PedalWrong => 212,
+            LineRefusal::SectionOccupied => 213,
+            LineRefusal::Instrument(refusal) => refusal.number(),
+        }
+    }
+}
+
+pub impl From<InstrumentRefusal> for LineRefusal as LineRefusalFromInstrument {
+    ghost converts = { λ e r. r ≡ Instrument e };
+
+    fn from(e: InstrumentRefusal) -> LineRefusal {
+        LineRefusal::Instrument(e)
+    }
 }

@@ -1,0 +1,4 @@
+// A turn: one line and two books. What holds at the end of every turn is in specs/Law.antt.
+pub mod laws;
+pub mod refusals;
+pub mod rows;
