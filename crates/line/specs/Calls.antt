@@ -1,10 +1,12 @@
 -- What each call names, and what the line knows of it besides.
 use Prim.Native.Nat.{ℕ}
+use Rattle.block.specs.declared.order.Action.{Action}
+use Rattle.block.specs.declared.order.Action.the-variants.{Give, Open as OpenAction, Return, Clear, Restore}
 use Rattle.block.specs.declared.order.Direction.{Direction}
 use Rattle.std.specs.declared.option.Option.{Option}
 use Rattle.std.specs.declared.option.Option.the-variants.{None, Some}
 use Rattle.line.specs.State.{LineState}
-use Rattle.line.specs.Trains.{place-of, departs, runs, presses, stands-at}
+use Rattle.trains.specs.Trains.{place-of, departs, runs, presses, stands-at}
 use Rattle.line.specs.declared.calls.Call.{Call}
 use Rattle.line.specs.declared.calls.Call.the-variants.{PlaceTrain, WithdrawTrain, GiveRelease, OpenSignal, CloseSignal, EnterSection, ReturnRelease, OpenHome, ShutHome, ReachPedal, LeaveSection, ClearSection, UnsealSection, RestoreSection}
 
@@ -75,3 +77,20 @@ post-of s (LeaveSection n k) = None
 post-of s (ClearSection k d) = None
 post-of s (UnsealSection k d) = None
 post-of s (RestoreSection k d) = None
+
+-- the action that a call asks of the instrument
+abbrev pub action-of : Call → Option Action
+action-of (PlaceTrain n p) = None
+action-of (WithdrawTrain n) = None
+action-of (GiveRelease k d) = Some Give
+action-of (OpenSignal k d) = Some OpenAction
+action-of (CloseSignal k d) = None
+action-of (EnterSection n k) = None
+action-of (ReturnRelease k d) = Some Return
+action-of (OpenHome k d) = None
+action-of (ShutHome k d) = None
+action-of (ReachPedal n k) = None
+action-of (LeaveSection n k) = None
+action-of (ClearSection k d) = Some Clear
+action-of (UnsealSection k d) = Some Clear
+action-of (RestoreSection k d) = Some Restore

@@ -1,19 +1,18 @@
 -- When each call is refused: its checks, in their order; the first that fails gives the refusal.
 use mathlib.Core.Bool.{Bool, true, false, not, _||_}
-use mathlib.Core.List.{List, [], _∷_}
+use mathlib.Core.List.{List, [], _∷_, _++_}
 use Prim.Native.Nat.{ℕ}
 use lib.Dec.{ltb, leb}
 use Rattle.block.specs.Meaning.{answer}
 use Rattle.block.specs.declared.order.Action.{Action}
-use Rattle.block.specs.declared.order.Action.the-variants.{Give, Open, Return, Clear, Restore}
 use Rattle.block.specs.declared.order.Direction.{Direction}
 use Rattle.std.specs.Options.{isSome, mapped}
 use Rattle.std.specs.Results.{errPart}
 use Rattle.std.specs.declared.option.Option.{Option}
 use Rattle.std.specs.declared.option.Option.the-variants.{None, Some}
-use Rattle.line.specs.Calls.{direction-of, post-of}
+use Rattle.line.specs.Calls.{section-of, direction-of, post-of, action-of}
 use Rattle.line.specs.State.{LineState, count, section-at, block-signal, home-signal, is-closed, is-open, home-is-open}
-use Rattle.line.specs.Trains.{place-of, any, is-free, occupied, pedal-pressed}
+use Rattle.trains.specs.Trains.{place-of, any, is-free, occupied, pedal-pressed}
 use Rattle.line.specs.declared.calls.Call.{Call}
 use Rattle.line.specs.declared.calls.Call.the-variants.{PlaceTrain, WithdrawTrain, GiveRelease, OpenSignal, CloseSignal, EnterSection, ReturnRelease, OpenHome, ShutHome, ReachPedal, LeaveSection, ClearSection, UnsealSection, RestoreSection}
 use Rattle.line.specs.declared.refusals.LineRefusal.{LineRefusal}
@@ -83,35 +82,46 @@ abbrev pub going : Option Direction → (Direction → Option LineRefusal) → O
 going None check = None
 going (Some d) check = check d
 
-abbrev pub checks : LineState → Call → List (Option LineRefusal)
-checks s (PlaceTrain n p) = train-unknown n ∷ post-unknown s p ∷ train-present s n ∷ table-full s ∷ []
-checks s (WithdrawTrain n) = train-unknown n ∷ train-absent s n ∷ elsewhere (post-of s (WithdrawTrain n)) ∷ []
-checks s (GiveRelease k d) = section-unknown s k ∷ instrument-refuses s Give k d ∷ []
-checks s (OpenSignal k d) = section-unknown s k ∷ instrument-refuses s Open k d ∷ []
-checks s (CloseSignal k d) =
+-- the line's own checks of a call
+abbrev pub own-checks : LineState → Call → List (Option LineRefusal)
+own-checks s (PlaceTrain n p) = train-unknown n ∷ post-unknown s p ∷ train-present s n ∷ table-full s ∷ []
+own-checks s (WithdrawTrain n) = train-unknown n ∷ train-absent s n ∷ elsewhere (post-of s (WithdrawTrain n)) ∷ []
+own-checks s (GiveRelease k d) = section-unknown s k ∷ []
+own-checks s (OpenSignal k d) = section-unknown s k ∷ []
+own-checks s (CloseSignal k d) =
     section-unknown s k ∷ refused-if (is-closed (block-signal d (section-at (s .sections) k))) BlockSignalWrong ∷ []
-checks s (EnterSection n k) =
+own-checks s (EnterSection n k) =
     let way = direction-of s (EnterSection n k) in
     train-unknown n ∷ section-unknown s k ∷ train-absent s n ∷ elsewhere way
     ∷ going way (λ d. refused-if (not (is-open (block-signal d (section-at (s .sections) k)))) BlockSignalWrong) ∷ []
-checks s (ReturnRelease k d) =
+own-checks s (ReturnRelease k d) =
     section-unknown s k ∷ refused-if (not (is-closed (block-signal d (section-at (s .sections) k)))) BlockSignalWrong
-    ∷ instrument-refuses s Return k d ∷ []
-checks s (OpenHome k d) = section-unknown s k ∷ home-open s k d ∷ []
-checks s (ShutHome k d) =
+    ∷ []
+own-checks s (OpenHome k d) = section-unknown s k ∷ home-open s k d ∷ []
+own-checks s (ShutHome k d) =
     section-unknown s k ∷ home-shut s k d ∷ refused-if (pedal-pressed k d (s .trains)) PedalWrong ∷ []
-checks s (ReachPedal n k) =
+own-checks s (ReachPedal n k) =
     let way = direction-of s (ReachPedal n k) in
     train-unknown n ∷ section-unknown s k ∷ train-absent s n ∷ elsewhere way ∷ going way (home-shut s k) ∷ []
-checks s (LeaveSection n k) =
+own-checks s (LeaveSection n k) =
     train-unknown n ∷ section-unknown s k ∷ train-absent s n ∷ elsewhere (direction-of s (LeaveSection n k)) ∷ []
-checks s (ClearSection k d) =
+own-checks s (ClearSection k d) =
     section-unknown s k ∷ home-open s k d ∷ refused-if (not (section-at (s .sections) k .pedal)) PedalWrong
-    ∷ instrument-refuses s Clear k d ∷ []
-checks s (UnsealSection k d) =
+    ∷ []
+own-checks s (UnsealSection k d) =
     section-unknown s k ∷ home-open s k d ∷ refused-if (occupied k (s .trains)) SectionOccupied
-    ∷ refused-if (section-at (s .sections) k .pedal) PedalWrong ∷ instrument-refuses s Clear k d ∷ []
-checks s (RestoreSection k d) = section-unknown s k ∷ home-open s k d ∷ instrument-refuses s Restore k d ∷ []
+    ∷ refused-if (section-at (s .sections) k .pedal) PedalWrong ∷ []
+own-checks s (RestoreSection k d) = section-unknown s k ∷ home-open s k d ∷ []
+
+-- what the instrument says to what is asked of it, last of all
+abbrev pub asked : LineState → Option Action → Option ℕ → Option Direction → List (Option LineRefusal)
+asked s None k d = []
+asked s (Some a) None d = []
+asked s (Some a) (Some k) None = []
+asked s (Some a) (Some k) (Some d) = instrument-refuses s a k d ∷ []
+
+abbrev pub checks : LineState → Call → List (Option LineRefusal)
+checks s c = own-checks s c ++ asked s (action-of c) (section-of c) (direction-of s c)
 
 -- the refusal of a call, none where it is accepted
 unfoldable pub refusal : LineState → Call → Option LineRefusal

@@ -5,22 +5,21 @@ use Prim.Native.Nat.{ℕ}
 use lib.ListN.{set}
 use Rattle.block.specs.Meaning.{after}
 use Rattle.block.specs.declared.order.Action.{Action}
-use Rattle.block.specs.declared.order.Action.the-variants.{Give, Open as OpenAction, Return, Clear, Restore}
 use Rattle.block.specs.declared.order.Direction.{Direction}
 use Rattle.block.specs.declared.order.Phase.{Phase}
 use Rattle.std.specs.declared.option.Option.{Option}
 use Rattle.std.specs.declared.option.Option.the-variants.{None, Some}
-use Rattle.line.specs.Calls.{section-of, direction-of}
+use Rattle.line.specs.Calls.{section-of, direction-of, action-of}
 use Rattle.line.specs.State.{LineState, section-at, with-block, with-home, with-pedal}
-use Rattle.line.specs.Trains.{put-first, is-free, bears, free, taken, exit-post}
+use Rattle.trains.specs.Trains.{put-first, is-free, bears, free, taken, exit-post}
 use Rattle.line.specs.declared.calls.Call.{Call}
 use Rattle.line.specs.declared.calls.Call.the-variants.{PlaceTrain, WithdrawTrain, GiveRelease, OpenSignal, CloseSignal, EnterSection, ReturnRelease, OpenHome, ShutHome, ReachPedal, LeaveSection, ClearSection, UnsealSection, RestoreSection}
 use Rattle.line.specs.declared.signals.BlockSignal.the-variants.{Closed, Open, Fallen}
 use Rattle.line.specs.declared.signals.HomeSignal.the-variants.{Shut, Open as HomeOpen}
 use Rattle.line.specs.declared.signals.SectionState.{SectionState}
-use Rattle.line.specs.declared.trains.Place.{Place}
-use Rattle.line.specs.declared.trains.Place.the-variants.{AtPost, Running, OnPedal}
-use Rattle.line.specs.declared.trains.TrainRecord.{TrainRecord}
+use Rattle.trains.specs.declared.places.Place.{Place}
+use Rattle.trains.specs.declared.places.Place.the-variants.{AtPost, Running, OnPedal}
+use Rattle.trains.specs.declared.places.TrainRecord.{TrainRecord}
 
 -- how each call changes one section
 abbrev pub section-effect : Call → Option Direction → SectionState → SectionState
@@ -59,23 +58,6 @@ trains-effect (LeaveSection n k) (Some d) xs = put-first (bears n) (taken n (AtP
 trains-effect (ClearSection k d) o xs = xs
 trains-effect (UnsealSection k d) o xs = xs
 trains-effect (RestoreSection k d) o xs = xs
-
--- the action that a call asks of the instrument
-abbrev pub action-of : Call → Option Action
-action-of (PlaceTrain n p) = None
-action-of (WithdrawTrain n) = None
-action-of (GiveRelease k d) = Some Give
-action-of (OpenSignal k d) = Some OpenAction
-action-of (CloseSignal k d) = None
-action-of (EnterSection n k) = None
-action-of (ReturnRelease k d) = Some Return
-action-of (OpenHome k d) = None
-action-of (ShutHome k d) = None
-action-of (ReachPedal n k) = None
-action-of (LeaveSection n k) = None
-action-of (ClearSection k d) = Some Clear
-action-of (UnsealSection k d) = Some Clear
-action-of (RestoreSection k d) = Some Restore
 
 -- the phases once the instrument has worked what was asked of it
 abbrev pub phases-effect : Option Action → Option ℕ → Option Direction → List Phase → List Phase

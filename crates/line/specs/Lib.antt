@@ -1,6 +1,8 @@
 pub mod State
-pub mod Trains
 pub mod Calls
 pub mod Checks
 pub mod Effects
 pub mod Numbers
+pub mod Slips
+pub mod Lines
+pub mod Working

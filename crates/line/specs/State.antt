@@ -16,7 +16,7 @@ use Rattle.line.specs.declared.signals.HomeSignal.{HomeSignal}
 use Rattle.line.specs.declared.signals.HomeSignal.the-variants.{Shut, Open as HomeOpen}
 use Rattle.line.specs.declared.signals.SectionState.{SectionState}
 use Rattle.line.specs.declared.signals.Signals.{Signals}
-use Rattle.line.specs.declared.trains.TrainRecord.{TrainRecord}
+use Rattle.trains.specs.declared.places.TrainRecord.{TrainRecord}
 
 pub record LineState : Type 0 where
   pub condition : Condition

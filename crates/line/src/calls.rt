@@ -1,4 +1,6 @@
 // The fourteen calls, with the letter of each.
+ghost use mathlib.Core.Path.{_≡_};
+ghost use Rattle.line.specs.Calls.{train-of, section-of};
 use block::order::Direction;
 
 #[derive(Clone, Copy)]
@@ -31,4 +33,40 @@ pub enum Call {
     UnsealSection { section: u32, direction: Direction },
     // Z
     RestoreSection { section: u32, direction: Direction },
+}
+
+impl Call {
+    // The train that the call names.
+    pub fn train(self) -> Option<u32>
+        ensures { λ r. ⌜ r ≡ train-of self ⌝ }
+    {
+        match self {
+            Call::PlaceTrain { train, .. } | Call::WithdrawTrain { train } => Some(train),
+            Call::EnterSection { train, .. }
+            | Call::ReachPedal { train, .. }
+            | Call::LeaveSection { train, .. } => Some(train),
+            _ => None,
+        }
+    }
+
+    // The section that the call names.
+    pub fn section(self) -> Option<u32>
+        ensures { λ r. ⌜ r ≡ section-of self ⌝ }
+    {
+        match self {
+            Call::PlaceTrain { .. } | Call::WithdrawTrain { .. } => None,
+            Call::EnterSection { section, .. }
+            | Call::ReachPedal { section, .. }
+            | Call::LeaveSection { section, .. } => Some(section),
+            Call::GiveRelease { section, .. }
+            | Call::OpenSignal { section, .. }
+            | Call::CloseSignal { section, .. }
+            | Call::ReturnRelease { section, .. }
+            | Call::OpenHome { section, .. }
+            | Call::ShutHome { section, .. }
+            | Call::ClearSection { section, .. }
+            | Call::UnsealSection { section, .. }
+            | Call::RestoreSection { section, .. } => Some(section),
+        }
+    }
 }

@@ -1,5 +1,6 @@
 // The line: its signals, pedal marks and trains, and the fourteen calls.
 pub mod calls;
+pub mod lines;
 pub mod refusals;
 pub mod signals;
-pub mod trains;
+pub mod slips;

@@ -1,7 +1,9 @@
 // What the line says where it refuses.
 ghost use mathlib.Core.Path.{_≡_};
+ghost use Rattle.line.specs.Checks.{unfit};
 ghost use Rattle.line.specs.Numbers.{line-number};
 ghost use Rattle.line.specs.declared.refusals.LineRefusal.the-variants.{Instrument};
+use crate::signals::Condition;
 use block::refusals::InstrumentRefusal;
 
 #[derive(Clone, Copy)]
@@ -54,5 +56,17 @@ pub impl From<InstrumentRefusal> for LineRefusal as LineRefusalFromInstrument {
 
     fn from(e: InstrumentRefusal) -> LineRefusal {
         LineRefusal::Instrument(e)
+    }
+}
+
+impl Condition {
+    pub fn unfit(self) -> Option<LineRefusal>
+        ensures { λ r. ⌜ r ≡ unfit self ⌝ }
+    {
+        match self {
+            Condition::Sound => None,
+            Condition::Sectionless => Some(LineRefusal::NoSectionAtAll),
+            Condition::Unsettled => Some(LineRefusal::MadeUnsettled),
+        }
     }
 }

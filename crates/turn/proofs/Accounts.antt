@@ -138,7 +138,9 @@ books t good cs =
     let way : (k : ℕ) → Settled rows k (owed (g .way k)) = λ k. settled rows k (g .way k) (g .stands k .trail-is) (g .stands k .falls) in
     record {
       register = registered t cs;
-      awaiting = λ k w. ⊎-elim (λ s. omega (arith, g .stands k .account, s .1)) (λ s. absurd (s .0 w)) (way k);
-      settled = λ k none. ⊎-elim (λ s. absurd (none (s .0))) (λ s. omega (arith, g .stands k .account, s .1)) (way k);
+      account = λ k. record {
+        awaiting = λ w. ⊎-elim (λ s. omega (arith, g .stands k .account, s .1)) (λ s. absurd (s .0 w)) (way k);
+        settled = λ none. ⊎-elim (λ s. absurd (none (s .0))) (λ s. omega (arith, g .stands k .account, s .1)) (way k);
+      };
       seals = g .sealed;
     }

@@ -12,10 +12,10 @@ use Rattle.block.specs.declared.order.Direction.{Direction}
 use Rattle.std.specs.Options.{isSome}
 use Rattle.std.specs.declared.option.Option.{Option}
 use Rattle.std.specs.declared.option.Option.the-variants.{None, Some}
-use Rattle.line.specs.Trains.{free, taken, is-free, bears, place-in, place-of, any, put-first, is-inside, is-pressing, occupied, pedal-pressed}
-use Rattle.line.specs.declared.trains.Place.{Place}
-use Rattle.line.specs.declared.trains.Train.{Train}
-use Rattle.line.specs.declared.trains.TrainRecord.{TrainRecord}
+use Rattle.trains.specs.Trains.{free, taken, is-free, bears, place-in, place-of, any, put-first, is-inside, is-pressing, occupied, pedal-pressed}
+use Rattle.trains.specs.declared.places.Place.{Place}
+use Rattle.trains.specs.declared.places.Train.{Train}
+use Rattle.trains.specs.declared.places.TrainRecord.{TrainRecord}
 use Rattle.turn.specs.Alike.{copies, vacancies, Once, SameTrains}
 use Rattle.turn.proofs.Tables.{bears-one, free-bears, taken-bears, place-other, copies-other, place-moved, copies-moved, copies-off, place-none, copies-none, place-new, copies-new, any-from, any-some}
 use Rattle.turn.proofs.Tests.{none-some, true-false}

@@ -16,9 +16,9 @@ use Rattle.block.specs.declared.order.Phase.the-variants.{Opened, Returned}
 use Rattle.std.specs.Runs.{nth}
 use Rattle.std.specs.declared.option.Option.{Option}
 use Rattle.std.specs.declared.option.Option.the-variants.{None, Some}
-use Rattle.line.specs.Trains.{place-of, is-inside}
-use Rattle.line.specs.declared.trains.Place.{Place}
-use Rattle.line.specs.declared.trains.Place.the-variants.{AtPost, Running, OnPedal}
+use Rattle.trains.specs.Trains.{place-of, is-inside}
+use Rattle.trains.specs.declared.places.Place.{Place}
+use Rattle.trains.specs.declared.places.Place.the-variants.{AtPost, Running, OnPedal}
 use Rattle.turn.specs.Law.{Inside, Released, Apart}
 use Rattle.turn.specs.Telling.{Told, ToldFor, ToldOf, inside-at}
 use Rattle.turn.specs.Turn.{TurnState}

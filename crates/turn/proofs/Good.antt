@@ -16,14 +16,15 @@ use Rattle.std.specs.declared.option.Option.{Option}
 use Rattle.std.specs.declared.option.Option.the-variants.{None, Some}
 use Rattle.line.specs.Calls.{train-of, section-of, direction-of}
 use Rattle.line.specs.Checks.{train-unknown}
-use Rattle.line.specs.Effects.{action-of, section-effect, trains-effect, phases-effect, sections-effect, effect}
+use Rattle.line.specs.Effects.{section-effect, trains-effect, phases-effect, sections-effect, effect}
+use Rattle.line.specs.Calls.{action-of}
 use Rattle.line.specs.State.{LineState, count, section-at, idle}
-use Rattle.line.specs.Trains.{place-of}
+use Rattle.trains.specs.Trains.{place-of}
 use Rattle.line.specs.declared.calls.Call.{Call}
 use Rattle.line.specs.declared.calls.Call.the-variants.{PlaceTrain, WithdrawTrain, GiveRelease, OpenSignal, CloseSignal, EnterSection, ReturnRelease, OpenHome, ShutHome, ReachPedal, LeaveSection, ClearSection, UnsealSection, RestoreSection}
 use Rattle.line.specs.declared.signals.Condition.the-variants.{Sound}
 use Rattle.line.specs.declared.signals.SectionState.{SectionState}
-use Rattle.line.specs.declared.trains.Place.{Place}
+use Rattle.trains.specs.declared.places.Place.{Place}
 use Rattle.turn.specs.Alike.{Once}
 use Rattle.turn.specs.Law.{Unmoved}
 use Rattle.turn.specs.Rows.{row-of, kind-of, unsealing, seals-of}

@@ -13,11 +13,11 @@ use Rattle.block.specs.declared.order.Phase.the-variants.{Rest, Given, Opened, 
 use Rattle.std.specs.declared.option.Option.{Option}
 use Rattle.std.specs.declared.option.Option.the-variants.{None, Some}
 use Rattle.line.specs.State.{is-closed, is-open}
-use Rattle.line.specs.Trains.{departs, runs, presses, is-inside}
+use Rattle.trains.specs.Trains.{departs, runs, presses, is-inside}
 use Rattle.line.specs.declared.signals.BlockSignal.{BlockSignal}
 use Rattle.line.specs.declared.signals.BlockSignal.the-variants.{Closed, Open, Fallen}
-use Rattle.line.specs.declared.trains.Place.{Place}
-use Rattle.line.specs.declared.trains.Place.the-variants.{AtPost, Running, OnPedal}
+use Rattle.trains.specs.declared.places.Place.{Place}
+use Rattle.trains.specs.declared.places.Place.the-variants.{AtPost, Running, OnPedal}
 use Rattle.turn.specs.Telling.{inside-at}
 use Rattle.turn.proofs.Tests.{none-some, some-same, true-false}
 use Rattle.turn.proofs.Ways.{Past, Use, unused, running, pressing, gone, Lever, pulled, put-back, returned, Way, rest, given, held, cleared, phase-of, signal-of, block-of, pedal-of, use-pedal, inside-of, use-inside}

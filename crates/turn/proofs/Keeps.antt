@@ -19,13 +19,13 @@ use Rattle.line.specs.Calls.{direction-of}
 use Rattle.line.specs.Checks.{refusal, instrument-refuses, section-unknown, going, home-open, home-shut}
 use Rattle.line.specs.Effects.{effect}
 use Rattle.line.specs.State.{count, section-at, block-signal, with-block, with-home, with-pedal, is-closed, is-open}
-use Rattle.line.specs.Trains.{place-of}
+use Rattle.trains.specs.Trains.{place-of}
 use Rattle.line.specs.declared.calls.Call.{Call}
 use Rattle.line.specs.declared.calls.Call.the-variants.{PlaceTrain, WithdrawTrain, GiveRelease, OpenSignal, CloseSignal, EnterSection, ReturnRelease, OpenHome, ShutHome, ReachPedal, LeaveSection, ClearSection, UnsealSection, RestoreSection}
 use Rattle.line.specs.declared.signals.BlockSignal.{BlockSignal}
 use Rattle.line.specs.declared.signals.BlockSignal.the-variants.{Closed, Open, Fallen}
 use Rattle.line.specs.declared.signals.HomeSignal.the-variants.{Shut, Open as HomeOpen}
-use Rattle.line.specs.declared.trains.Place.{Place}
+use Rattle.trains.specs.declared.places.Place.{Place}
 use Rattle.turn.specs.Rows.{kind-of, row-of}
 use Rattle.turn.specs.Telling.{inside-at}
 use Rattle.turn.specs.Turn.{TurnState, worked}

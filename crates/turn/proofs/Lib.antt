@@ -18,3 +18,6 @@ pub mod Rest
 pub mod Alikes
 pub mod AlikeTurns
 pub mod Law
+pub mod Calls
+pub mod Playing
+pub mod Counting

@@ -19,13 +19,13 @@ use Rattle.line.specs.Calls.{train-of, section-of, direction-of}
 use Rattle.line.specs.Checks.{refusal, train-unknown, elsewhere}
 use Rattle.line.specs.Effects.{effect, section-effect, trains-effect}
 use Rattle.line.specs.State.{section-at, with-block, with-pedal}
-use Rattle.line.specs.Trains.{free, taken, bears, is-free, any, place-of, put-first, runs, presses, stands-at, exit-post}
+use Rattle.trains.specs.Trains.{free, taken, bears, is-free, any, place-of, put-first, runs, presses, stands-at, exit-post}
 use Rattle.line.specs.declared.calls.Call.{Call}
 use Rattle.line.specs.declared.calls.Call.the-variants.{PlaceTrain, WithdrawTrain, EnterSection, ReachPedal, LeaveSection}
 use Rattle.line.specs.declared.signals.BlockSignal.{BlockSignal}
 use Rattle.line.specs.declared.signals.BlockSignal.the-variants.{Closed, Open, Fallen}
-use Rattle.line.specs.declared.trains.Place.{Place}
-use Rattle.line.specs.declared.trains.Place.the-variants.{AtPost, Running, OnPedal}
+use Rattle.trains.specs.declared.places.Place.{Place}
+use Rattle.trains.specs.declared.places.Place.the-variants.{AtPost, Running, OnPedal}
 use Rattle.turn.specs.Alike.{copies, Once}
 use Rattle.turn.specs.Rows.{row-of}
 use Rattle.turn.specs.Telling.{inside-at}

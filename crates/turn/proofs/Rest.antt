@@ -27,9 +27,10 @@ use Rattle.std.specs.declared.result.Result.{Result}
 use Rattle.std.specs.declared.result.Result.the-variants.{Ok, Err}
 use Rattle.line.specs.Calls.{train-of, section-of, direction-of}
 use Rattle.line.specs.Checks.{refused-if, refusal, checks, section-unknown, instrument-refuses, home-open, home-shut, going}
-use Rattle.line.specs.Effects.{action-of, effect, section-effect, trains-effect}
+use Rattle.line.specs.Effects.{effect, section-effect, trains-effect}
+use Rattle.line.specs.Calls.{action-of}
 use Rattle.line.specs.State.{LineState, count, section-at, block-signal, home-signal, is-closed, home-is-open}
-use Rattle.line.specs.Trains.{place-of, runs, presses, exit-post, is-inside, is-pressing, occupied, pedal-pressed}
+use Rattle.trains.specs.Trains.{place-of, runs, presses, exit-post, is-inside, is-pressing, occupied, pedal-pressed}
 use Rattle.line.specs.declared.calls.Call.{Call}
 use Rattle.line.specs.declared.calls.Call.the-variants.{OpenSignal, CloseSignal, ReturnRelease, OpenHome, ShutHome, ReachPedal, LeaveSection, ClearSection, UnsealSection, RestoreSection}
 use Rattle.line.specs.declared.refusals.LineRefusal.{LineRefusal}
@@ -38,8 +39,8 @@ use Rattle.line.specs.declared.signals.BlockSignal.the-variants.{Closed, Open, 
 use Rattle.line.specs.declared.signals.HomeSignal.{HomeSignal}
 use Rattle.line.specs.declared.signals.HomeSignal.the-variants.{Shut, Open as HomeOpen}
 use Rattle.line.specs.declared.signals.SectionState.{SectionState}
-use Rattle.line.specs.declared.trains.Place.{Place}
-use Rattle.line.specs.declared.trains.Place.the-variants.{AtPost, Running, OnPedal}
+use Rattle.trains.specs.declared.places.Place.{Place}
+use Rattle.trains.specs.declared.places.Place.the-variants.{AtPost, Running, OnPedal}
 use Rattle.turn.specs.Law.{Inside, Accepted, Unmoved, Brought}
 use Rattle.turn.specs.Rows.{row-of, unsealing, seals-of}
 use Rattle.turn.specs.Telling.{inside-at}

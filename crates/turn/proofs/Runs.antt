@@ -19,14 +19,14 @@ use Rattle.std.specs.declared.option.Option.the-variants.{None, Some}
 use Rattle.line.specs.Calls.{direction-of}
 use Rattle.line.specs.Checks.{refusal, refused-if, instrument-refuses}
 use Rattle.line.specs.State.{section-at, block-signal, is-closed, is-open, idle}
-use Rattle.line.specs.Trains.{free, place-of, is-inside, occupied}
+use Rattle.trains.specs.Trains.{free, place-of, is-inside, occupied}
 use Rattle.line.specs.declared.calls.Call.{Call}
 use Rattle.line.specs.declared.calls.Call.the-variants.{PlaceTrain, WithdrawTrain, GiveRelease, OpenSignal, CloseSignal, EnterSection, ReturnRelease, OpenHome, ShutHome, ReachPedal, LeaveSection, ClearSection, UnsealSection, RestoreSection}
 use Rattle.line.specs.declared.refusals.LineRefusal.{LineRefusal}
 use Rattle.line.specs.declared.refusals.LineRefusal.the-variants.{BlockSignalWrong}
 use Rattle.line.specs.declared.signals.BlockSignal.the-variants.{Closed}
-use Rattle.line.specs.declared.trains.Place.{Place}
-use Rattle.line.specs.declared.trains.Place.the-variants.{Running, OnPedal}
+use Rattle.trains.specs.declared.places.Place.{Place}
+use Rattle.trains.specs.declared.places.Place.the-variants.{Running, OnPedal}
 use Rattle.turn.specs.Alike.{copies}
 use Rattle.turn.specs.Telling.{inside-at}
 use Rattle.turn.specs.Rows.{unsealing}

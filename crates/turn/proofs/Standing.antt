@@ -15,7 +15,7 @@ use Rattle.std.specs.declared.option.Option.{Option}
 use Rattle.std.specs.declared.option.Option.the-variants.{None, Some}
 use Rattle.line.specs.State.{block-signal}
 use Rattle.line.specs.declared.signals.SectionState.{SectionState}
-use Rattle.line.specs.declared.trains.Place.{Place}
+use Rattle.trains.specs.declared.places.Place.{Place}
 use Rattle.turn.specs.Rows.{kind-code, names, tells, tally}
 use Rattle.turn.specs.Telling.{inside-at}
 use Rattle.turn.specs.declared.rows.Kind.{Kind}

@@ -8,10 +8,10 @@ use lib.Dec.{eqb}
 use borrow.Author.Tests.{eq-eqb, ne-eqb, eqb-true}
 use Rattle.std.specs.declared.option.Option.{Option}
 use Rattle.std.specs.declared.option.Option.the-variants.{None, Some}
-use Rattle.line.specs.Trains.{free, taken, holds-number, is-free, bears, place-in, place-of, any, put-first}
-use Rattle.line.specs.declared.trains.Place.{Place}
-use Rattle.line.specs.declared.trains.Train.{Train}
-use Rattle.line.specs.declared.trains.TrainRecord.{TrainRecord}
+use Rattle.trains.specs.Trains.{free, taken, holds-number, is-free, bears, place-in, place-of, any, put-first}
+use Rattle.trains.specs.declared.places.Place.{Place}
+use Rattle.trains.specs.declared.places.Train.{Train}
+use Rattle.trains.specs.declared.places.TrainRecord.{TrainRecord}
 use Rattle.turn.specs.Alike.{copies, vacancies, Once}
 use Rattle.turn.proofs.Tests.{none-some, true-false}
 

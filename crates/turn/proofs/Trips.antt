@@ -10,8 +10,8 @@ use Rattle.block.specs.declared.order.Direction.{Direction}
 use Rattle.std.specs.Runs.{nth}
 use Rattle.std.specs.declared.option.Option.{Option}
 use Rattle.std.specs.declared.option.Option.the-variants.{None, Some}
-use Rattle.line.specs.declared.trains.Place.{Place}
-use Rattle.line.specs.declared.trains.Place.the-variants.{AtPost, Running, OnPedal}
+use Rattle.trains.specs.declared.places.Place.{Place}
+use Rattle.trains.specs.declared.places.Place.the-variants.{AtPost, Running, OnPedal}
 use Rattle.turn.specs.Telling.{ToldOf}
 use Rattle.turn.specs.declared.rows.Kind.{Kind}
 use Rattle.turn.specs.declared.rows.Kind.the-variants.{Entry, Leaving}

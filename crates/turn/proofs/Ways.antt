@@ -11,8 +11,8 @@ use Rattle.std.specs.declared.option.Option.{Option}
 use Rattle.std.specs.declared.option.Option.the-variants.{None, Some}
 use Rattle.line.specs.declared.signals.BlockSignal.{BlockSignal}
 use Rattle.line.specs.declared.signals.BlockSignal.the-variants.{Closed, Open, Fallen}
-use Rattle.line.specs.declared.trains.Place.{Place}
-use Rattle.line.specs.declared.trains.Place.the-variants.{AtPost, Running, OnPedal}
+use Rattle.trains.specs.declared.places.Place.{Place}
+use Rattle.trains.specs.declared.places.Place.the-variants.{AtPost, Running, OnPedal}
 use Rattle.turn.specs.declared.rows.Kind.{Kind}
 use Rattle.turn.specs.declared.rows.Kind.the-variants.{Giving, Opening, Entry, Leaving, Clearing, Unsealing}
 use Rattle.turn.specs.declared.rows.RegisterRow.{RegisterRow}

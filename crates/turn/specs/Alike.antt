@@ -3,8 +3,8 @@ use mathlib.Core.Bool.{cond}
 use mathlib.Core.List.{List, [], _∷_}
 use mathlib.Core.Path.{_≡_}
 use Prim.Native.Nat.{ℕ, _+_, _≤_}
-use Rattle.line.specs.Trains.{bears, is-free, place-of}
-use Rattle.line.specs.declared.trains.TrainRecord.{TrainRecord}
+use Rattle.trains.specs.Trains.{bears, is-free, place-of}
+use Rattle.trains.specs.declared.places.TrainRecord.{TrainRecord}
 use Rattle.turn.specs.Turn.{TurnState}
 
 -- how many records hold train n

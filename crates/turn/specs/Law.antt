@@ -14,9 +14,9 @@ use Rattle.std.specs.declared.option.Option.{Option}
 use Rattle.std.specs.declared.option.Option.the-variants.{None, Some}
 use Rattle.std.specs.declared.result.Result.the-variants.{Err}
 use Rattle.line.specs.State.{LineState, count, section-at}
-use Rattle.line.specs.Trains.{place-of, is-inside}
+use Rattle.trains.specs.Trains.{place-of, is-inside}
 use Rattle.line.specs.declared.calls.Call.{Call}
-use Rattle.line.specs.declared.trains.Place.the-variants.{AtPost}
+use Rattle.trains.specs.declared.places.Place.the-variants.{AtPost}
 use Rattle.turn.specs.Alike.{Alike}
 use Rattle.turn.specs.Rows.{row-of, tally}
 use Rattle.turn.specs.Telling.{Told, ToldFor, ToldOf, seal-rows, inside-at}
@@ -75,6 +75,11 @@ pub record Awaits (rows : List RegisterRow) (section : ℕ) : Type 0 where
   pub not-left : (later : ℕ) → giving < later → Told rows later Leaving section → ⊥
   pub not-unsealed : (later : ℕ) → giving < later → Told rows later Unsealing section → ⊥
 
+-- For a section, givings equal leavings plus unsealings, plus one while a release awaits either.
+pub record Account (rows : List RegisterRow) (section : ℕ) : Type 0 where
+  pub awaiting : Awaits rows section → tally Giving section rows ≡ tally Leaving section rows + tally Unsealing section rows + 1
+  pub settled : (Awaits rows section → ⊥) → tally Giving section rows ≡ tally Leaving section rows + tally Unsealing section rows
+
 -- the row that a call makes: one where it is accepted, none where it is refused
 abbrev pub row-where : Option TurnRefusal → RegisterRow → List RegisterRow
 row-where None r = r ∷ []
@@ -89,10 +94,7 @@ pub record Books (start : TurnState) (calls : List Call) : Type 0 where
   -- the register has exactly the rows of the accepted calls
   pub register : run start calls .register .rows ≡ start .register .rows ++ rows-of start calls
   -- for each section, givings equal leavings plus unsealings, plus one while a release awaits either
-  pub awaiting : (k : ℕ) → Awaits (run start calls .register .rows) k
-      → tally Giving k (run start calls .register .rows) ≡ tally Leaving k (run start calls .register .rows) + tally Unsealing k (run start calls .register .rows) + 1
-  pub settled : (k : ℕ) → (Awaits (run start calls .register .rows) k → ⊥)
-      → tally Giving k (run start calls .register .rows) ≡ tally Leaving k (run start calls .register .rows) + tally Unsealing k (run start calls .register .rows)
+  pub account : (k : ℕ) → Account (run start calls .register .rows) k
   -- the seal book has exactly one row for each unsealing in the register, in that order
   pub seals : run start calls .seals .rows ≡ seal-rows 0 (run start calls .register .rows)
 

@@ -4,4 +4,5 @@ pub mod Turn
 pub mod Alike
 pub mod Telling
 pub mod Law
+pub mod Turns
 pub mod Worked

@@ -14,7 +14,7 @@ use Rattle.line.specs.declared.calls.Call.the-variants.{PlaceTrain, WithdrawTra
 use Rattle.turn.specs.declared.rows.Kind.{Kind}
 use Rattle.turn.specs.declared.rows.Kind.the-variants.{Placing, Withdrawal, Giving, Opening, Closing, Entry, Returning, HomeOpening, HomeShutting, PedalReached, Leaving, Clearing, Unsealing, Restoring}
 use Rattle.turn.specs.declared.rows.RegisterRow.{RegisterRow}
-use Rattle.turn.specs.declared.rows.SealRow.{SealRow}
+use Rattle.line.specs.declared.slips.SealRow.{SealRow}
 
 -- the number of a call, 1 to 14
 abbrev pub kind-code : Kind → ℕ

@@ -7,12 +7,12 @@ use Rattle.block.specs.declared.order.Direction.{Direction}
 use Rattle.std.specs.Runs.{nth}
 use Rattle.std.specs.declared.option.Option.{Option}
 use Rattle.std.specs.declared.option.Option.the-variants.{None, Some}
-use Rattle.line.specs.Trains.{is-inside}
-use Rattle.line.specs.declared.trains.Place.{Place}
+use Rattle.trains.specs.Trains.{is-inside}
+use Rattle.trains.specs.declared.places.Place.{Place}
 use Rattle.turn.specs.declared.rows.Kind.{Kind}
 use Rattle.turn.specs.declared.rows.Kind.the-variants.{Placing, Withdrawal, Giving, Opening, Closing, Entry, Returning, HomeOpening, HomeShutting, PedalReached, Leaving, Clearing, Unsealing, Restoring}
 use Rattle.turn.specs.declared.rows.RegisterRow.{RegisterRow}
-use Rattle.turn.specs.declared.rows.SealRow.{SealRow}
+use Rattle.line.specs.declared.slips.SealRow.{SealRow}
 
 -- at this place stands a row of this kind and section
 pub record Told (rows : List RegisterRow) (place : ℕ) (kind : Kind) (section : ℕ) : Type 0 where

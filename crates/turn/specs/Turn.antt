@@ -18,7 +18,7 @@ use Rattle.turn.specs.Rows.{row-of, unsealing, seals-of}
 use Rattle.turn.specs.declared.refusals.TurnRefusal.{TurnRefusal}
 use Rattle.turn.specs.declared.refusals.TurnRefusal.the-variants.{RegisterFull, SealBookFull, Line}
 use Rattle.turn.specs.declared.rows.RegisterRow.{RegisterRow}
-use Rattle.turn.specs.declared.rows.SealRow.{SealRow}
+use Rattle.line.specs.declared.slips.SealRow.{SealRow}
 
 -- a book: its rows so far, and for how many it has room
 pub record Book (Row : Type 0) : Type 0 where

@@ -9,10 +9,10 @@ use Rattle.block.specs.declared.order.Direction.the-variants.{Up, Down}
 use Rattle.std.specs.declared.option.Option.the-variants.{Some}
 use Rattle.std.specs.declared.result.Result.{Result}
 use Rattle.std.specs.declared.result.Result.the-variants.{Ok, Err}
-use Rattle.line.specs.Trains.{place-of, occupied}
+use Rattle.trains.specs.Trains.{place-of, occupied}
 use Rattle.line.specs.declared.calls.Call.{Call}
 use Rattle.line.specs.declared.calls.Call.the-variants.{PlaceTrain, GiveRelease, OpenSignal, CloseSignal, EnterSection, ReturnRelease, OpenHome, ShutHome, ReachPedal, LeaveSection, ClearSection, RestoreSection}
-use Rattle.line.specs.declared.trains.Place.the-variants.{AtPost}
+use Rattle.trains.specs.declared.places.Place.the-variants.{AtPost}
 use Rattle.turn.specs.Numbers.{turn-number, turn-values}
 use Rattle.turn.specs.Rows.{row-values, tally}
 use Rattle.turn.specs.Turn.{TurnState, new-turn, answers, run}

@@ -8,10 +8,10 @@ use Rattle.block.specs.declared.order.Direction.{Direction}
 use Rattle.block.specs.declared.order.Direction.the-variants.{Up, Down}
 use Rattle.std.specs.declared.option.Option.{Option}
 use Rattle.std.specs.declared.option.Option.the-variants.{None, Some}
-use Rattle.line.specs.declared.trains.Place.{Place}
-use Rattle.line.specs.declared.trains.Place.the-variants.{AtPost, Running, OnPedal}
-use Rattle.line.specs.declared.trains.Train.{Train}
-use Rattle.line.specs.declared.trains.TrainRecord.{TrainRecord}
+use Rattle.trains.specs.declared.places.Place.{Place}
+use Rattle.trains.specs.declared.places.Place.the-variants.{AtPost, Running, OnPedal}
+use Rattle.trains.specs.declared.places.Train.{Train}
+use Rattle.trains.specs.declared.places.TrainRecord.{TrainRecord}
 
 abbrev pub free : TrainRecord
 free = record { train = None }
@@ -46,6 +46,11 @@ place-of n (r ∷ rs) = cond (bears n r) (place-in (r .train)) (place-of n rs)
 abbrev pub any : (TrainRecord → Bool) → List TrainRecord → Bool
 any test [] = false
 any test (r ∷ rs) = test r || any test rs
+
+-- the place of the first record that passes, where the list's first one has place i
+abbrev pub first-from : ℕ → (TrainRecord → Bool) → List TrainRecord → Option ℕ
+first-from i test [] = None
+first-from i test (r ∷ rs) = cond (test r) (Some i) (first-from (suc i) test rs)
 
 -- the first record that passes is replaced
 abbrev pub put-first : (TrainRecord → Bool) → TrainRecord → List TrainRecord → List TrainRecord
@@ -99,6 +104,15 @@ occupied k rs = any (λ r. is-inside k (place-in (r .train))) rs
 
 abbrev pub pedal-pressed : ℕ → Direction → List TrainRecord → Bool
 pedal-pressed k d rs = any (λ r. is-pressing k d (place-in (r .train))) rs
+
+abbrev pub number-in : Option Train → Option ℕ
+number-in None = None
+number-in (Some t) = Some (t .number)
+
+-- the number of a train inside section k, in the order of the records
+abbrev pub number-inside : ℕ → List TrainRecord → Option ℕ
+number-inside k [] = None
+number-inside k (r ∷ rs) = cond (is-inside k (place-in (r .train))) (number-in (r .train)) (number-inside k rs)
 
 -- the post that a train leaves section k for
 abbrev pub exit-post : ℕ → Direction → ℕ

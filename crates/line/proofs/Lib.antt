@@ -1,0 +1,3 @@
+pub mod Resting
+pub mod FirstChecks
+pub mod Parts
