@@ -10,8 +10,8 @@ use lib.Seq.{drop-cons}
 use Rattle.std.specs.Options.{isSome}
 use Rattle.std.specs.declared.option.Option.{Option}
 use Rattle.std.specs.declared.option.Option.the-variants.{None, Some}
-use Rattle.line.specs.Checks.{first-refusal}
-use Rattle.line.specs.declared.refusals.LineRefusal.{LineRefusal}
+use Rattle.rules.specs.Checks.{first-refusal}
+use Rattle.rules.specs.declared.refusals.LineRefusal.{LineRefusal}
 
 module _ (os : List (Option LineRefusal)) (i : ℕ) (here : i < length os) where
   pub first-found : true ≡ isSome (getD os i None) → first-refusal (drop i os) ≡ getD os i None

@@ -14,15 +14,15 @@ use Rattle.std.specs.declared.option.Option.{Option}
 use Rattle.std.specs.declared.option.Option.the-variants.{None, Some}
 use Rattle.std.specs.declared.result.Result.{Result}
 use Rattle.std.specs.declared.result.Result.the-variants.{Ok, Err}
-use Rattle.line.specs.Calls.{section-of, direction-of, action-of}
-use Rattle.line.specs.Checks.{first-refusal, unfit, own-checks, asked, refusal}
-use Rattle.line.specs.Effects.{phases-effect, effect}
+use Rattle.rules.specs.Calls.{section-of, direction-of, action-of}
+use Rattle.rules.specs.Checks.{first-refusal, unfit, own-checks, asked, refusal}
+use Rattle.rules.specs.Effects.{phases-effect, effect}
 use Rattle.line.specs.Lines.{line-after, unless}
-use Rattle.line.specs.State.{LineState}
+use Rattle.rules.specs.State.{LineState}
 use Rattle.line.specs.Working.{told}
-use Rattle.line.specs.declared.calls.Call.{Call}
-use Rattle.line.specs.declared.refusals.LineRefusal.{LineRefusal}
-use Rattle.line.specs.declared.refusals.LineRefusal.the-variants.{Instrument}
+use Rattle.rules.specs.declared.calls.Call.{Call}
+use Rattle.rules.specs.declared.refusals.LineRefusal.{LineRefusal}
+use Rattle.rules.specs.declared.refusals.LineRefusal.the-variants.{Instrument}
 
 clash : {X : Type 0} → _≡_ {A = ℕ} 0 1 → X
 clash e = absurd (omega arith)

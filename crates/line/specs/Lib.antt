@@ -1,8 +1,2 @@
-pub mod State
-pub mod Calls
-pub mod Checks
-pub mod Effects
-pub mod Numbers
-pub mod Slips
 pub mod Lines
 pub mod Working

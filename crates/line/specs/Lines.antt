@@ -13,16 +13,16 @@ use Rattle.std.specs.declared.option.Option.the-variants.{None, Some}
 use Rattle.std.specs.declared.result.Result.{Result}
 use Rattle.std.specs.declared.result.Result.the-variants.{Ok, Err}
 use Rattle.trains.specs.Trains.{free}
-use Rattle.line.specs.Checks.{refusal}
-use Rattle.line.specs.Effects.{effect}
-use Rattle.line.specs.Slips.{slip-of}
-use Rattle.line.specs.State.{LineState, idle}
-use Rattle.line.specs.declared.calls.Call.{Call}
+use Rattle.rules.specs.Checks.{refusal}
+use Rattle.rules.specs.Effects.{effect}
+use Rattle.rules.specs.Slips.{slip-of}
+use Rattle.rules.specs.State.{LineState, idle}
+use Rattle.rules.specs.declared.calls.Call.{Call}
 use Rattle.line.specs.declared.lines.Line.{Line}
-use Rattle.line.specs.declared.refusals.LineRefusal.{LineRefusal}
-use Rattle.line.specs.declared.signals.Condition.{Condition}
-use Rattle.line.specs.declared.signals.Condition.the-variants.{Sound, Sectionless, Unsettled}
-use Rattle.line.specs.declared.slips.Slip.{Slip}
+use Rattle.rules.specs.declared.refusals.LineRefusal.{LineRefusal}
+use Rattle.rules.specs.declared.signals.Condition.{Condition}
+use Rattle.rules.specs.declared.signals.Condition.the-variants.{Sound, Sectionless, Unsettled}
+use Rattle.rules.specs.declared.slips.Slip.{Slip}
 
 abbrev pub state : {I : Type 0} → (I → List Phase) → Line I → LineState
 state phases l = record {

@@ -6,12 +6,12 @@ use Rattle.std.specs.declared.option.Option.{Option}
 use Rattle.std.specs.declared.option.Option.the-variants.{None, Some}
 use Rattle.std.specs.declared.result.Result.{Result}
 use Rattle.std.specs.declared.result.Result.the-variants.{Ok, Err}
-use Rattle.line.specs.Calls.{section-of, direction-of, action-of}
-use Rattle.line.specs.Checks.{first-refusal, asked}
-use Rattle.line.specs.Effects.{phases-effect}
-use Rattle.line.specs.State.{LineState}
-use Rattle.line.specs.declared.calls.Call.{Call}
-use Rattle.line.specs.declared.refusals.LineRefusal.{LineRefusal}
+use Rattle.rules.specs.Calls.{section-of, direction-of, action-of}
+use Rattle.rules.specs.Checks.{first-refusal, asked}
+use Rattle.rules.specs.Effects.{phases-effect}
+use Rattle.rules.specs.State.{LineState}
+use Rattle.rules.specs.declared.calls.Call.{Call}
+use Rattle.rules.specs.declared.refusals.LineRefusal.{LineRefusal}
 
 abbrev pub told : Option LineRefusal → Result (Unit {0}) LineRefusal
 told None = Ok tt

@@ -1,6 +1,2 @@
-// The line: its signals, pedal marks and trains, and the fourteen calls.
-pub mod calls;
+// The line, over any block instrument: how each call is worked.
 pub mod lines;
-pub mod refusals;
-pub mod signals;
-pub mod slips;

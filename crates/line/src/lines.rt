@@ -1,8 +1,8 @@
 // The line, over any block instrument.
 ghost use mathlib.Core.Path.{_≡_};
 ghost use lib.ListN.{length};
-use crate::signals::Condition;
-use crate::signals::SectionState;
+use rules::signals::Condition;
+use rules::signals::SectionState;
 use trains::table::TrainTable;
 
 mod examining;

@@ -11,7 +11,7 @@ use Rattle.std.proofs.shelf.Tests.{cases-lt}
 use Rattle.block.specs.declared.order.Direction.{Direction}
 use Rattle.std.specs.declared.option.Option.{Option}
 use Rattle.std.specs.declared.option.Option.the-variants.{None, Some}
-use Rattle.line.specs.declared.calls.Call.{Call}
+use Rattle.rules.specs.declared.calls.Call.{Call}
 use Rattle.turn.specs.Law.{Awaits, row-where, rows-of, Books}
 use Rattle.turn.specs.Rows.{kind-code, row-of}
 use Rattle.turn.specs.Telling.{Told}

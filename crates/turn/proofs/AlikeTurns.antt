@@ -9,16 +9,16 @@ use Rattle.block.specs.declared.order.Direction.{Direction}
 use Rattle.std.specs.Options.{isSome, mapped}
 use Rattle.std.specs.declared.option.Option.{Option}
 use Rattle.std.specs.declared.option.Option.the-variants.{None, Some}
-use Rattle.line.specs.Calls.{train-of, section-of, direction-of, post-of}
-use Rattle.line.specs.Checks.{refused-if, first-refusal, unfit, checks, refusal, train-unknown, section-unknown, post-unknown, instrument-refuses, home-open, home-shut, elsewhere, going}
-use Rattle.line.specs.Effects.{section-effect, trains-effect, phases-effect, sections-effect, effect}
-use Rattle.line.specs.Calls.{action-of}
-use Rattle.line.specs.State.{LineState, section-at, block-signal, is-open}
+use Rattle.rules.specs.Calls.{train-of, section-of, direction-of, post-of}
+use Rattle.rules.specs.Checks.{refused-if, first-refusal, unfit, checks, refusal, train-unknown, section-unknown, post-unknown, instrument-refuses, home-open, home-shut, elsewhere, going}
+use Rattle.rules.specs.Effects.{section-effect, trains-effect, phases-effect, sections-effect, effect}
+use Rattle.rules.specs.Calls.{action-of}
+use Rattle.rules.specs.State.{LineState, section-at, block-signal, is-open}
 use Rattle.trains.specs.Trains.{place-of, departs, runs, presses, stands-at, taken, bears, put-first, exit-post}
-use Rattle.line.specs.declared.calls.Call.{Call}
-use Rattle.line.specs.declared.calls.Call.the-variants.{PlaceTrain, WithdrawTrain, GiveRelease, OpenSignal, CloseSignal, EnterSection, ReturnRelease, OpenHome, ShutHome, ReachPedal, LeaveSection, ClearSection, UnsealSection, RestoreSection}
-use Rattle.line.specs.declared.refusals.LineRefusal.{LineRefusal}
-use Rattle.line.specs.declared.refusals.LineRefusal.the-variants.{TrainPresent, TableFull, TrainAbsent, BlockSignalWrong, PedalWrong, SectionOccupied}
+use Rattle.rules.specs.declared.calls.Call.{Call}
+use Rattle.rules.specs.declared.calls.Call.the-variants.{PlaceTrain, WithdrawTrain, GiveRelease, OpenSignal, CloseSignal, EnterSection, ReturnRelease, OpenHome, ShutHome, ReachPedal, LeaveSection, ClearSection, UnsealSection, RestoreSection}
+use Rattle.rules.specs.declared.refusals.LineRefusal.{LineRefusal}
+use Rattle.rules.specs.declared.refusals.LineRefusal.the-variants.{TrainPresent, TableFull, TrainAbsent, BlockSignalWrong, PedalWrong, SectionOccupied}
 use Rattle.trains.specs.declared.places.Place.{Place}
 use Rattle.trains.specs.declared.places.Place.the-variants.{AtPost, Running, OnPedal}
 use Rattle.trains.specs.declared.places.TrainRecord.{TrainRecord}

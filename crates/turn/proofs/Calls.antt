@@ -9,15 +9,15 @@ use Rattle.std.specs.declared.option.Option.{Option}
 use Rattle.std.specs.declared.option.Option.the-variants.{None, Some}
 use Rattle.std.specs.declared.result.Result.{Result}
 use Rattle.std.specs.declared.result.Result.the-variants.{Ok, Err}
-use Rattle.line.specs.Checks.{refusal}
+use Rattle.rules.specs.Checks.{refusal}
 use Rattle.line.specs.Lines.{answered, line-answer}
-use Rattle.line.specs.Slips.{slip-of}
-use Rattle.line.specs.State.{LineState}
-use Rattle.line.specs.declared.calls.Call.{Call}
-use Rattle.line.specs.declared.calls.Call.the-variants.{PlaceTrain, WithdrawTrain, GiveRelease, OpenSignal, CloseSignal, EnterSection, ReturnRelease, OpenHome, ShutHome, ReachPedal, LeaveSection, ClearSection, UnsealSection, RestoreSection}
-use Rattle.line.specs.declared.refusals.LineRefusal.{LineRefusal}
-use Rattle.line.specs.declared.slips.SealRow.{SealRow}
-use Rattle.line.specs.declared.slips.Slip.{Slip}
+use Rattle.rules.specs.Slips.{slip-of}
+use Rattle.rules.specs.State.{LineState}
+use Rattle.rules.specs.declared.calls.Call.{Call}
+use Rattle.rules.specs.declared.calls.Call.the-variants.{PlaceTrain, WithdrawTrain, GiveRelease, OpenSignal, CloseSignal, EnterSection, ReturnRelease, OpenHome, ShutHome, ReachPedal, LeaveSection, ClearSection, UnsealSection, RestoreSection}
+use Rattle.rules.specs.declared.refusals.LineRefusal.{LineRefusal}
+use Rattle.rules.specs.declared.slips.SealRow.{SealRow}
+use Rattle.rules.specs.declared.slips.Slip.{Slip}
 use Rattle.turn.specs.Rows.{unsealing, seals-of}
 use Rattle.turn.specs.Turn.{Book, full, TurnState, no-seal-row, turn-refusal, answer-of}
 use Rattle.turn.specs.Turns.{admission, slip-rows}

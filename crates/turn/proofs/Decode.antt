@@ -15,12 +15,12 @@ use Rattle.std.specs.declared.option.Option.{Option}
 use Rattle.std.specs.declared.option.Option.the-variants.{None, Some}
 use Rattle.std.specs.declared.result.Result.{Result}
 use Rattle.std.specs.declared.result.Result.the-variants.{Ok, Err}
-use Rattle.line.specs.Checks.{refused-if, first-refusal, unfit, checks, refusal, section-unknown, instrument-refuses, elsewhere, going}
-use Rattle.line.specs.State.{LineState, count}
-use Rattle.line.specs.declared.calls.Call.{Call}
-use Rattle.line.specs.declared.signals.Condition.the-variants.{Sound}
-use Rattle.line.specs.declared.refusals.LineRefusal.{LineRefusal}
-use Rattle.line.specs.declared.refusals.LineRefusal.the-variants.{Instrument}
+use Rattle.rules.specs.Checks.{refused-if, first-refusal, unfit, checks, refusal, section-unknown, instrument-refuses, elsewhere, going}
+use Rattle.rules.specs.State.{LineState, count}
+use Rattle.rules.specs.declared.calls.Call.{Call}
+use Rattle.rules.specs.declared.signals.Condition.the-variants.{Sound}
+use Rattle.rules.specs.declared.refusals.LineRefusal.{LineRefusal}
+use Rattle.rules.specs.declared.refusals.LineRefusal.the-variants.{Instrument}
 use Rattle.turn.proofs.Tests.{none-some, true-false}
 
 -- each of the checks passes

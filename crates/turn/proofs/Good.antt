@@ -14,16 +14,16 @@ use Rattle.block.specs.declared.order.Phase.{Phase}
 use Rattle.block.proofs.Steps as steps
 use Rattle.std.specs.declared.option.Option.{Option}
 use Rattle.std.specs.declared.option.Option.the-variants.{None, Some}
-use Rattle.line.specs.Calls.{train-of, section-of, direction-of}
-use Rattle.line.specs.Checks.{train-unknown}
-use Rattle.line.specs.Effects.{section-effect, trains-effect, phases-effect, sections-effect, effect}
-use Rattle.line.specs.Calls.{action-of}
-use Rattle.line.specs.State.{LineState, count, section-at, idle}
+use Rattle.rules.specs.Calls.{train-of, section-of, direction-of}
+use Rattle.rules.specs.Checks.{train-unknown}
+use Rattle.rules.specs.Effects.{section-effect, trains-effect, phases-effect, sections-effect, effect}
+use Rattle.rules.specs.Calls.{action-of}
+use Rattle.rules.specs.State.{LineState, count, section-at, idle}
 use Rattle.trains.specs.Trains.{place-of}
-use Rattle.line.specs.declared.calls.Call.{Call}
-use Rattle.line.specs.declared.calls.Call.the-variants.{PlaceTrain, WithdrawTrain, GiveRelease, OpenSignal, CloseSignal, EnterSection, ReturnRelease, OpenHome, ShutHome, ReachPedal, LeaveSection, ClearSection, UnsealSection, RestoreSection}
-use Rattle.line.specs.declared.signals.Condition.the-variants.{Sound}
-use Rattle.line.specs.declared.signals.SectionState.{SectionState}
+use Rattle.rules.specs.declared.calls.Call.{Call}
+use Rattle.rules.specs.declared.calls.Call.the-variants.{PlaceTrain, WithdrawTrain, GiveRelease, OpenSignal, CloseSignal, EnterSection, ReturnRelease, OpenHome, ShutHome, ReachPedal, LeaveSection, ClearSection, UnsealSection, RestoreSection}
+use Rattle.rules.specs.declared.signals.Condition.the-variants.{Sound}
+use Rattle.rules.specs.declared.signals.SectionState.{SectionState}
 use Rattle.trains.specs.declared.places.Place.{Place}
 use Rattle.turn.specs.Alike.{Once}
 use Rattle.turn.specs.Law.{Unmoved}

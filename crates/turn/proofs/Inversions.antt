@@ -12,10 +12,10 @@ use Rattle.block.specs.declared.order.Phase.{Phase}
 use Rattle.block.specs.declared.order.Phase.the-variants.{Rest, Given, Opened, Returned, Cleared}
 use Rattle.std.specs.declared.option.Option.{Option}
 use Rattle.std.specs.declared.option.Option.the-variants.{None, Some}
-use Rattle.line.specs.State.{is-closed, is-open}
+use Rattle.rules.specs.State.{is-closed, is-open}
 use Rattle.trains.specs.Trains.{departs, runs, presses, is-inside}
-use Rattle.line.specs.declared.signals.BlockSignal.{BlockSignal}
-use Rattle.line.specs.declared.signals.BlockSignal.the-variants.{Closed, Open, Fallen}
+use Rattle.rules.specs.declared.signals.BlockSignal.{BlockSignal}
+use Rattle.rules.specs.declared.signals.BlockSignal.the-variants.{Closed, Open, Fallen}
 use Rattle.trains.specs.declared.places.Place.{Place}
 use Rattle.trains.specs.declared.places.Place.the-variants.{AtPost, Running, OnPedal}
 use Rattle.turn.specs.Telling.{inside-at}

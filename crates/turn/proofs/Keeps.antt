@@ -15,16 +15,16 @@ use Rattle.block.specs.declared.order.Direction.{Direction}
 use Rattle.block.proofs.Steps as steps
 use Rattle.std.specs.declared.option.Option.{Option}
 use Rattle.std.specs.declared.option.Option.the-variants.{None, Some}
-use Rattle.line.specs.Calls.{direction-of}
-use Rattle.line.specs.Checks.{refusal, instrument-refuses, section-unknown, going, home-open, home-shut}
-use Rattle.line.specs.Effects.{effect}
-use Rattle.line.specs.State.{count, section-at, block-signal, with-block, with-home, with-pedal, is-closed, is-open}
+use Rattle.rules.specs.Calls.{direction-of}
+use Rattle.rules.specs.Checks.{refusal, instrument-refuses, section-unknown, going, home-open, home-shut}
+use Rattle.rules.specs.Effects.{effect}
+use Rattle.rules.specs.State.{count, section-at, block-signal, with-block, with-home, with-pedal, is-closed, is-open}
 use Rattle.trains.specs.Trains.{place-of}
-use Rattle.line.specs.declared.calls.Call.{Call}
-use Rattle.line.specs.declared.calls.Call.the-variants.{PlaceTrain, WithdrawTrain, GiveRelease, OpenSignal, CloseSignal, EnterSection, ReturnRelease, OpenHome, ShutHome, ReachPedal, LeaveSection, ClearSection, UnsealSection, RestoreSection}
-use Rattle.line.specs.declared.signals.BlockSignal.{BlockSignal}
-use Rattle.line.specs.declared.signals.BlockSignal.the-variants.{Closed, Open, Fallen}
-use Rattle.line.specs.declared.signals.HomeSignal.the-variants.{Shut, Open as HomeOpen}
+use Rattle.rules.specs.declared.calls.Call.{Call}
+use Rattle.rules.specs.declared.calls.Call.the-variants.{PlaceTrain, WithdrawTrain, GiveRelease, OpenSignal, CloseSignal, EnterSection, ReturnRelease, OpenHome, ShutHome, ReachPedal, LeaveSection, ClearSection, UnsealSection, RestoreSection}
+use Rattle.rules.specs.declared.signals.BlockSignal.{BlockSignal}
+use Rattle.rules.specs.declared.signals.BlockSignal.the-variants.{Closed, Open, Fallen}
+use Rattle.rules.specs.declared.signals.HomeSignal.the-variants.{Shut, Open as HomeOpen}
 use Rattle.trains.specs.declared.places.Place.{Place}
 use Rattle.turn.specs.Rows.{kind-of, row-of}
 use Rattle.turn.specs.Telling.{inside-at}

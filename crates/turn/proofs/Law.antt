@@ -6,7 +6,7 @@ use native.Mathlib.Omega.{arith}
 use Rattle.std.specs.declared.option.Option.{Option}
 use Rattle.std.specs.declared.option.Option.the-variants.{None, Some}
 use Rattle.std.specs.declared.result.Result.the-variants.{Err}
-use Rattle.line.specs.declared.calls.Call.{Call}
+use Rattle.rules.specs.declared.calls.Call.{Call}
 use Rattle.turn.specs.Law.{TurnLaw, Law}
 use Rattle.turn.specs.Turn.{TurnState, turn-refusal, answer-of, step, run}
 use Rattle.turn.specs.declared.refusals.TurnRefusal.{TurnRefusal}

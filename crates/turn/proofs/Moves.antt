@@ -15,15 +15,15 @@ use Rattle.block.specs.declared.order.Direction.{Direction}
 use Rattle.std.specs.Options.{isSome}
 use Rattle.std.specs.declared.option.Option.{Option}
 use Rattle.std.specs.declared.option.Option.the-variants.{None, Some}
-use Rattle.line.specs.Calls.{train-of, section-of, direction-of}
-use Rattle.line.specs.Checks.{refusal, train-unknown, elsewhere}
-use Rattle.line.specs.Effects.{effect, section-effect, trains-effect}
-use Rattle.line.specs.State.{section-at, with-block, with-pedal}
+use Rattle.rules.specs.Calls.{train-of, section-of, direction-of}
+use Rattle.rules.specs.Checks.{refusal, train-unknown, elsewhere}
+use Rattle.rules.specs.Effects.{effect, section-effect, trains-effect}
+use Rattle.rules.specs.State.{section-at, with-block, with-pedal}
 use Rattle.trains.specs.Trains.{free, taken, bears, is-free, any, place-of, put-first, runs, presses, stands-at, exit-post}
-use Rattle.line.specs.declared.calls.Call.{Call}
-use Rattle.line.specs.declared.calls.Call.the-variants.{PlaceTrain, WithdrawTrain, EnterSection, ReachPedal, LeaveSection}
-use Rattle.line.specs.declared.signals.BlockSignal.{BlockSignal}
-use Rattle.line.specs.declared.signals.BlockSignal.the-variants.{Closed, Open, Fallen}
+use Rattle.rules.specs.declared.calls.Call.{Call}
+use Rattle.rules.specs.declared.calls.Call.the-variants.{PlaceTrain, WithdrawTrain, EnterSection, ReachPedal, LeaveSection}
+use Rattle.rules.specs.declared.signals.BlockSignal.{BlockSignal}
+use Rattle.rules.specs.declared.signals.BlockSignal.the-variants.{Closed, Open, Fallen}
 use Rattle.trains.specs.declared.places.Place.{Place}
 use Rattle.trains.specs.declared.places.Place.the-variants.{AtPost, Running, OnPedal}
 use Rattle.turn.specs.Alike.{copies, Once}

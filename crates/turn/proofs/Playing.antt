@@ -7,7 +7,7 @@ use lib.ListN.{length, take, drop, getD, set, length-take, take-append-drop}
 use lib.Seq.{getD-take, drop-set-lt, drop-drop}
 use Rattle.std.proofs.shelf.Lists.{drop-all, drop-more, take-more-set}
 use Rattle.std.specs.declared.result.Result.{Result}
-use Rattle.line.specs.declared.calls.Call.{Call}
+use Rattle.rules.specs.declared.calls.Call.{Call}
 use Rattle.turn.specs.Law.{TurnLaw}
 use Rattle.turn.specs.Turn.{TurnState, turn-answer, step, run, answers}
 use Rattle.turn.specs.Turns.{New}

@@ -25,20 +25,20 @@ use Rattle.std.specs.declared.option.Option.{Option}
 use Rattle.std.specs.declared.option.Option.the-variants.{None, Some}
 use Rattle.std.specs.declared.result.Result.{Result}
 use Rattle.std.specs.declared.result.Result.the-variants.{Ok, Err}
-use Rattle.line.specs.Calls.{train-of, section-of, direction-of}
-use Rattle.line.specs.Checks.{refused-if, refusal, checks, section-unknown, instrument-refuses, home-open, home-shut, going}
-use Rattle.line.specs.Effects.{effect, section-effect, trains-effect}
-use Rattle.line.specs.Calls.{action-of}
-use Rattle.line.specs.State.{LineState, count, section-at, block-signal, home-signal, is-closed, home-is-open}
+use Rattle.rules.specs.Calls.{train-of, section-of, direction-of}
+use Rattle.rules.specs.Checks.{refused-if, refusal, checks, section-unknown, instrument-refuses, home-open, home-shut, going}
+use Rattle.rules.specs.Effects.{effect, section-effect, trains-effect}
+use Rattle.rules.specs.Calls.{action-of}
+use Rattle.rules.specs.State.{LineState, count, section-at, block-signal, home-signal, is-closed, home-is-open}
 use Rattle.trains.specs.Trains.{place-of, runs, presses, exit-post, is-inside, is-pressing, occupied, pedal-pressed}
-use Rattle.line.specs.declared.calls.Call.{Call}
-use Rattle.line.specs.declared.calls.Call.the-variants.{OpenSignal, CloseSignal, ReturnRelease, OpenHome, ShutHome, ReachPedal, LeaveSection, ClearSection, UnsealSection, RestoreSection}
-use Rattle.line.specs.declared.refusals.LineRefusal.{LineRefusal}
-use Rattle.line.specs.declared.refusals.LineRefusal.the-variants.{SectionUnknown, Instrument}
-use Rattle.line.specs.declared.signals.BlockSignal.the-variants.{Closed, Open, Fallen}
-use Rattle.line.specs.declared.signals.HomeSignal.{HomeSignal}
-use Rattle.line.specs.declared.signals.HomeSignal.the-variants.{Shut, Open as HomeOpen}
-use Rattle.line.specs.declared.signals.SectionState.{SectionState}
+use Rattle.rules.specs.declared.calls.Call.{Call}
+use Rattle.rules.specs.declared.calls.Call.the-variants.{OpenSignal, CloseSignal, ReturnRelease, OpenHome, ShutHome, ReachPedal, LeaveSection, ClearSection, UnsealSection, RestoreSection}
+use Rattle.rules.specs.declared.refusals.LineRefusal.{LineRefusal}
+use Rattle.rules.specs.declared.refusals.LineRefusal.the-variants.{SectionUnknown, Instrument}
+use Rattle.rules.specs.declared.signals.BlockSignal.the-variants.{Closed, Open, Fallen}
+use Rattle.rules.specs.declared.signals.HomeSignal.{HomeSignal}
+use Rattle.rules.specs.declared.signals.HomeSignal.the-variants.{Shut, Open as HomeOpen}
+use Rattle.rules.specs.declared.signals.SectionState.{SectionState}
 use Rattle.trains.specs.declared.places.Place.{Place}
 use Rattle.trains.specs.declared.places.Place.the-variants.{AtPost, Running, OnPedal}
 use Rattle.turn.specs.Law.{Inside, Accepted, Unmoved, Brought}

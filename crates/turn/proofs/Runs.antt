@@ -16,15 +16,15 @@ use Rattle.block.proofs.Steps as steps
 use Rattle.std.specs.Options.{mapped}
 use Rattle.std.specs.declared.option.Option.{Option}
 use Rattle.std.specs.declared.option.Option.the-variants.{None, Some}
-use Rattle.line.specs.Calls.{direction-of}
-use Rattle.line.specs.Checks.{refusal, refused-if, instrument-refuses}
-use Rattle.line.specs.State.{section-at, block-signal, is-closed, is-open, idle}
+use Rattle.rules.specs.Calls.{direction-of}
+use Rattle.rules.specs.Checks.{refusal, refused-if, instrument-refuses}
+use Rattle.rules.specs.State.{section-at, block-signal, is-closed, is-open, idle}
 use Rattle.trains.specs.Trains.{free, place-of, is-inside, occupied}
-use Rattle.line.specs.declared.calls.Call.{Call}
-use Rattle.line.specs.declared.calls.Call.the-variants.{PlaceTrain, WithdrawTrain, GiveRelease, OpenSignal, CloseSignal, EnterSection, ReturnRelease, OpenHome, ShutHome, ReachPedal, LeaveSection, ClearSection, UnsealSection, RestoreSection}
-use Rattle.line.specs.declared.refusals.LineRefusal.{LineRefusal}
-use Rattle.line.specs.declared.refusals.LineRefusal.the-variants.{BlockSignalWrong}
-use Rattle.line.specs.declared.signals.BlockSignal.the-variants.{Closed}
+use Rattle.rules.specs.declared.calls.Call.{Call}
+use Rattle.rules.specs.declared.calls.Call.the-variants.{PlaceTrain, WithdrawTrain, GiveRelease, OpenSignal, CloseSignal, EnterSection, ReturnRelease, OpenHome, ShutHome, ReachPedal, LeaveSection, ClearSection, UnsealSection, RestoreSection}
+use Rattle.rules.specs.declared.refusals.LineRefusal.{LineRefusal}
+use Rattle.rules.specs.declared.refusals.LineRefusal.the-variants.{BlockSignalWrong}
+use Rattle.rules.specs.declared.signals.BlockSignal.the-variants.{Closed}
 use Rattle.trains.specs.declared.places.Place.{Place}
 use Rattle.trains.specs.declared.places.Place.the-variants.{Running, OnPedal}
 use Rattle.turn.specs.Alike.{copies}

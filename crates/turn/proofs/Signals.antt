@@ -4,10 +4,10 @@ use mathlib.Core.Path.{_≡_, refl}
 use Rattle.block.specs.Order.{same-direction}
 use Rattle.block.specs.declared.order.Direction.{Direction}
 use Rattle.block.specs.declared.order.Direction.the-variants.{Up, Down}
-use Rattle.line.specs.State.{block-signal, home-signal, with-block, with-home, with-pedal}
-use Rattle.line.specs.declared.signals.BlockSignal.{BlockSignal}
-use Rattle.line.specs.declared.signals.HomeSignal.{HomeSignal}
-use Rattle.line.specs.declared.signals.SectionState.{SectionState}
+use Rattle.rules.specs.State.{block-signal, home-signal, with-block, with-home, with-pedal}
+use Rattle.rules.specs.declared.signals.BlockSignal.{BlockSignal}
+use Rattle.rules.specs.declared.signals.HomeSignal.{HomeSignal}
+use Rattle.rules.specs.declared.signals.SectionState.{SectionState}
 
 pub block-changed : (d e : Direction) (b : BlockSignal) (x : SectionState) → block-signal e (with-block d b x) ≡ cond (same-direction d e) b (block-signal e x)
 block-changed Up Up b x = refl

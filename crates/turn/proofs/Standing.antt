@@ -13,8 +13,8 @@ use Rattle.block.specs.declared.order.Direction.{Direction}
 use Rattle.block.specs.declared.order.Phase.{Phase}
 use Rattle.std.specs.declared.option.Option.{Option}
 use Rattle.std.specs.declared.option.Option.the-variants.{None, Some}
-use Rattle.line.specs.State.{block-signal}
-use Rattle.line.specs.declared.signals.SectionState.{SectionState}
+use Rattle.rules.specs.State.{block-signal}
+use Rattle.rules.specs.declared.signals.SectionState.{SectionState}
 use Rattle.trains.specs.declared.places.Place.{Place}
 use Rattle.turn.specs.Rows.{kind-code, names, tells, tally}
 use Rattle.turn.specs.Telling.{inside-at}

@@ -9,8 +9,8 @@ use Rattle.block.specs.declared.order.Phase.{Phase}
 use Rattle.block.specs.declared.order.Phase.the-variants.{Rest, Given, Opened, Returned, Cleared}
 use Rattle.std.specs.declared.option.Option.{Option}
 use Rattle.std.specs.declared.option.Option.the-variants.{None, Some}
-use Rattle.line.specs.declared.signals.BlockSignal.{BlockSignal}
-use Rattle.line.specs.declared.signals.BlockSignal.the-variants.{Closed, Open, Fallen}
+use Rattle.rules.specs.declared.signals.BlockSignal.{BlockSignal}
+use Rattle.rules.specs.declared.signals.BlockSignal.the-variants.{Closed, Open, Fallen}
 use Rattle.trains.specs.declared.places.Place.{Place}
 use Rattle.trains.specs.declared.places.Place.the-variants.{AtPost, Running, OnPedal}
 use Rattle.turn.specs.declared.rows.Kind.{Kind}

@@ -13,9 +13,9 @@ use Rattle.block.specs.declared.order.Phase.the-variants.{Rest, Opened, Returne
 use Rattle.std.specs.declared.option.Option.{Option}
 use Rattle.std.specs.declared.option.Option.the-variants.{None, Some}
 use Rattle.std.specs.declared.result.Result.the-variants.{Err}
-use Rattle.line.specs.State.{LineState, count, section-at}
+use Rattle.rules.specs.State.{LineState, count, section-at}
 use Rattle.trains.specs.Trains.{place-of, is-inside}
-use Rattle.line.specs.declared.calls.Call.{Call}
+use Rattle.rules.specs.declared.calls.Call.{Call}
 use Rattle.trains.specs.declared.places.Place.the-variants.{AtPost}
 use Rattle.turn.specs.Alike.{Alike}
 use Rattle.turn.specs.Rows.{row-of, tally}

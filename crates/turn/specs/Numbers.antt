@@ -1,7 +1,7 @@
 -- The number and the values of each of a turn's refusals.
 use mathlib.Core.List.{List, []}
 use Prim.Native.Nat.{ℕ}
-use Rattle.line.specs.Numbers.{line-number, line-values}
+use Rattle.rules.specs.Numbers.{line-number, line-values}
 use Rattle.turn.specs.declared.refusals.TurnRefusal.{TurnRefusal}
 use Rattle.turn.specs.declared.refusals.TurnRefusal.the-variants.{RegisterFull, SealBookFull, Line}
 

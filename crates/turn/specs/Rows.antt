@@ -7,14 +7,14 @@ use Rattle.block.specs.Order.{direction-code}
 use Rattle.block.specs.declared.order.Direction.{Direction}
 use Rattle.std.specs.declared.option.Option.{Option}
 use Rattle.std.specs.declared.option.Option.the-variants.{None, Some}
-use Rattle.line.specs.Calls.{train-of, section-of, direction-of, post-of}
-use Rattle.line.specs.State.{LineState}
-use Rattle.line.specs.declared.calls.Call.{Call}
-use Rattle.line.specs.declared.calls.Call.the-variants.{PlaceTrain, WithdrawTrain, GiveRelease, OpenSignal, CloseSignal, EnterSection, ReturnRelease, OpenHome, ShutHome, ReachPedal, LeaveSection, ClearSection, UnsealSection, RestoreSection}
+use Rattle.rules.specs.Calls.{train-of, section-of, direction-of, post-of}
+use Rattle.rules.specs.State.{LineState}
+use Rattle.rules.specs.declared.calls.Call.{Call}
+use Rattle.rules.specs.declared.calls.Call.the-variants.{PlaceTrain, WithdrawTrain, GiveRelease, OpenSignal, CloseSignal, EnterSection, ReturnRelease, OpenHome, ShutHome, ReachPedal, LeaveSection, ClearSection, UnsealSection, RestoreSection}
 use Rattle.turn.specs.declared.rows.Kind.{Kind}
 use Rattle.turn.specs.declared.rows.Kind.the-variants.{Placing, Withdrawal, Giving, Opening, Closing, Entry, Returning, HomeOpening, HomeShutting, PedalReached, Leaving, Clearing, Unsealing, Restoring}
 use Rattle.turn.specs.declared.rows.RegisterRow.{RegisterRow}
-use Rattle.line.specs.declared.slips.SealRow.{SealRow}
+use Rattle.rules.specs.declared.slips.SealRow.{SealRow}
 
 -- the number of a call, 1 to 14
 abbrev pub kind-code : Kind → ℕ

@@ -12,7 +12,7 @@ use Rattle.trains.specs.declared.places.Place.{Place}
 use Rattle.turn.specs.declared.rows.Kind.{Kind}
 use Rattle.turn.specs.declared.rows.Kind.the-variants.{Placing, Withdrawal, Giving, Opening, Closing, Entry, Returning, HomeOpening, HomeShutting, PedalReached, Leaving, Clearing, Unsealing, Restoring}
 use Rattle.turn.specs.declared.rows.RegisterRow.{RegisterRow}
-use Rattle.line.specs.declared.slips.SealRow.{SealRow}
+use Rattle.rules.specs.declared.slips.SealRow.{SealRow}
 
 -- at this place stands a row of this kind and section
 pub record Told (rows : List RegisterRow) (place : ℕ) (kind : Kind) (section : ℕ) : Type 0 where

@@ -10,15 +10,15 @@ use Rattle.std.specs.declared.option.Option.{Option}
 use Rattle.std.specs.declared.option.Option.the-variants.{None, Some}
 use Rattle.std.specs.declared.result.Result.{Result}
 use Rattle.std.specs.declared.result.Result.the-variants.{Ok, Err}
-use Rattle.line.specs.Checks.{refusal}
-use Rattle.line.specs.Effects.{effect}
-use Rattle.line.specs.State.{LineState, new-line}
-use Rattle.line.specs.declared.calls.Call.{Call}
+use Rattle.rules.specs.Checks.{refusal}
+use Rattle.rules.specs.Effects.{effect}
+use Rattle.rules.specs.State.{LineState, new-line}
+use Rattle.rules.specs.declared.calls.Call.{Call}
 use Rattle.turn.specs.Rows.{row-of, unsealing, seals-of}
 use Rattle.turn.specs.declared.refusals.TurnRefusal.{TurnRefusal}
 use Rattle.turn.specs.declared.refusals.TurnRefusal.the-variants.{RegisterFull, SealBookFull, Line}
 use Rattle.turn.specs.declared.rows.RegisterRow.{RegisterRow}
-use Rattle.line.specs.declared.slips.SealRow.{SealRow}
+use Rattle.rules.specs.declared.slips.SealRow.{SealRow}
 
 -- a book: its rows so far, and for how many it has room
 pub record Book (Row : Type 0) : Type 0 where

@@ -12,11 +12,11 @@ use Rattle.std.specs.declared.option.Option.{Option}
 use Rattle.std.specs.declared.option.Option.the-variants.{None, Some}
 use Rattle.std.specs.declared.result.Result.{Result}
 use Rattle.line.specs.Lines.{state}
-use Rattle.line.specs.Slips.{seal-row-of}
-use Rattle.line.specs.declared.calls.Call.{Call}
+use Rattle.rules.specs.Slips.{seal-row-of}
+use Rattle.rules.specs.declared.calls.Call.{Call}
 use Rattle.line.specs.declared.lines.Line.{Line}
-use Rattle.line.specs.declared.slips.SealRow.{SealRow}
-use Rattle.line.specs.declared.slips.Slip.{Slip}
+use Rattle.rules.specs.declared.slips.SealRow.{SealRow}
+use Rattle.rules.specs.declared.slips.Slip.{Slip}
 use Rattle.turn.specs.Rows.{unsealing}
 use Rattle.turn.specs.Turn.{Book, full, TurnState, new-turn, no-seal-row, answer-of}
 use Rattle.turn.specs.declared.refusals.TurnRefusal.{TurnRefusal}

@@ -11,9 +11,9 @@ use crate::rows::RegisterRow;
 use crate::turns::work;
 use block::instruments::BlockInstrument;
 use book::Book;
-use line::calls::Call;
 use line::lines::Line;
-use line::slips::SealRow;
+use rules::calls::Call;
+use rules::slips::SealRow;
 
 // Works the calls one after the other, and answers each: as many as there are calls and places for answers. Of a turn that
 // begins new, the law of every turn holds at the end.

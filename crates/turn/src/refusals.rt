@@ -2,7 +2,7 @@
 ghost use mathlib.Core.Path.{_≡_};
 ghost use Rattle.turn.specs.Numbers.{turn-number};
 ghost use Rattle.turn.specs.declared.refusals.TurnRefusal.the-variants.{Line};
-use line::refusals::LineRefusal;
+use rules::refusals::LineRefusal;
 
 #[derive(Clone, Copy)]
 pub enum TurnRefusal {

@@ -4,8 +4,8 @@ ghost use Rattle.line.specs.Lines.{state};
 ghost use Rattle.turn.specs.Rows.{kind-code, kind-of, row-of, tells, names};
 use block::instruments::BlockInstrument;
 use block::order::Direction;
-use line::calls::Call;
 use line::lines::Line;
+use rules::calls::Call;
 
 // What a row of the turn register tells of, one kind for each call.
 #[derive(Clone, Copy)]

@@ -4,7 +4,7 @@ ghost use mathlib.Core.List.{_++_, _∷_, []};
 ghost use mathlib.Core.Path.{_≡_};
 ghost use lib.ListN.{length};
 ghost use Rattle.book.specs.Entered.{entered};
-ghost use Rattle.line.specs.Slips.{slip-of};
+ghost use Rattle.rules.specs.Slips.{slip-of};
 ghost use Rattle.std.specs.Options.{isSome};
 ghost use Rattle.turn.specs.Rows.{unsealing};
 ghost use Rattle.turn.specs.Turn.{full, answer-of, turn-answer, step};
@@ -14,10 +14,10 @@ use crate::refusals::TurnRefusalFromLine;
 use crate::rows::RegisterRow;
 use block::instruments::BlockInstrument;
 use book::Book;
-use line::calls::Call;
 use line::lines::Line;
-use line::slips::SealRow;
-use line::slips::Slip;
+use rules::calls::Call;
+use rules::slips::SealRow;
+use rules::slips::Slip;
 
 // Whether the books have room: the register for every call, the seal book for an unsealing.
 fn admit(

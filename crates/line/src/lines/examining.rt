@@ -1,14 +1,14 @@
 // The line's own checks of a call, in their order.
 ghost use mathlib.Core.List.{_∷_, []};
 ghost use mathlib.Core.Path.{_≡_};
-ghost use Rattle.line.specs.Checks.{refused-if, first-refusal, own-checks, section-unknown, post-unknown, train-present, table-full, train-absent, train-unknown, home-open, home-shut, elsewhere};
+ghost use Rattle.rules.specs.Checks.{refused-if, first-refusal, own-checks, section-unknown, post-unknown, train-present, table-full, train-absent, train-unknown, home-open, home-shut, elsewhere};
 ghost use Rattle.line.specs.Lines.{state};
-ghost use Rattle.line.specs.declared.calls.Call.the-variants.{PlaceTrain, WithdrawTrain, GiveRelease, CloseSignal, EnterSection, ReturnRelease, OpenHome, ShutHome, ReachPedal, LeaveSection, ClearSection, UnsealSection};
-use crate::calls::Call;
+ghost use Rattle.rules.specs.declared.calls.Call.the-variants.{PlaceTrain, WithdrawTrain, GiveRelease, CloseSignal, EnterSection, ReturnRelease, OpenHome, ShutHome, ReachPedal, LeaveSection, ClearSection, UnsealSection};
 use crate::lines::Line;
-use crate::refusals::LineRefusal;
 use block::instruments::BlockInstrument;
 use block::order::Direction;
+use rules::calls::Call;
+use rules::refusals::LineRefusal;
 
 const LAST_TRAIN: u32 = 99_999;
 

@@ -1,12 +1,12 @@
 // What the line knows of a call besides what it names.
 ghost use mathlib.Core.Path.{_≡_};
-ghost use Rattle.line.specs.Calls.{direction-of, post-of};
+ghost use Rattle.rules.specs.Calls.{direction-of, post-of};
 ghost use Rattle.line.specs.Lines.{state};
 ghost use Rattle.trains.specs.Trains.{place-of, stands-at};
-use crate::calls::Call;
 use crate::lines::Line;
 use block::instruments::BlockInstrument;
 use block::order::Direction;
+use rules::calls::Call;
 
 impl<I: BlockInstrument> Line<I> {
     // The post at which a train stands.

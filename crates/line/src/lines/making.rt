@@ -2,12 +2,12 @@
 ghost use mathlib.Core.Path.{_≡_};
 ghost use Rattle.line.specs.Lines.{state, made, at-rest, told-rest};
 use crate::lines::Line;
-use crate::signals::Condition;
-use crate::signals::IDLE;
 use block::instruments::BlockInstrument;
 use block::order::Phase;
 use block::order::PhasePartialEq;
 use block::refusals::InstrumentRefusal;
+use rules::signals::Condition;
+use rules::signals::IDLE;
 use trains::table::TrainTable;
 
 fn is_rest(answer: Result<Phase, InstrumentRefusal>) -> bool

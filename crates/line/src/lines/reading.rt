@@ -2,14 +2,14 @@
 ghost use mathlib.Core.Path.{_≡_};
 ghost use Rattle.block.specs.Meaning.{phase-answer};
 ghost use Rattle.line.specs.Lines.{state};
-ghost use Rattle.line.specs.State.{count, section-at};
+ghost use Rattle.rules.specs.State.{count, section-at};
 ghost use Rattle.trains.specs.Trains.{place-of, number-inside};
 use crate::lines::Line;
-use crate::signals::IDLE;
-use crate::signals::SectionState;
 use block::instruments::BlockInstrument;
 use block::order::Phase;
 use block::refusals::InstrumentRefusal;
+use rules::signals::IDLE;
+use rules::signals::SectionState;
 use trains::places::Place;
 
 impl<I: BlockInstrument> Line<I> {

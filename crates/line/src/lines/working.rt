@@ -4,24 +4,23 @@ ghost use mathlib.Core.Path.{_≡_};
 ghost use Prim.Native.Nat.{_<_};
 ghost use lib.ListN.{set};
 ghost use Rattle.block.specs.Meaning.{after};
-ghost use Rattle.line.specs.Calls.{section-of};
-ghost use Rattle.line.specs.Checks.{instrument-refuses};
-ghost use Rattle.line.specs.Effects.{section-effect, trains-effect, sections-effect};
+ghost use Rattle.rules.specs.Calls.{section-of};
+ghost use Rattle.rules.specs.Checks.{instrument-refuses};
+ghost use Rattle.rules.specs.Effects.{section-effect, trains-effect, sections-effect};
 ghost use Rattle.line.specs.Lines.{state, line-answer, line-after};
-ghost use Rattle.line.specs.Slips.{slip-of};
 ghost use Rattle.line.specs.Working.{told, with-phases, ask-answer, ask-after, Within};
 ghost use Rattle.trains.specs.Trains.{exit-post};
-use crate::calls::Call;
 use crate::lines::Line;
-use crate::refusals::LineRefusal;
-use crate::refusals::LineRefusalFromInstrument;
-use crate::signals::BlockSignal;
-use crate::signals::HomeSignal;
-use crate::signals::SectionState;
-use crate::slips::Slip;
 use block::instruments::BlockInstrument;
 use block::order::Action;
 use block::order::Direction;
+use rules::calls::Call;
+use rules::refusals::LineRefusal;
+use rules::refusals::LineRefusalFromInstrument;
+use rules::signals::BlockSignal;
+use rules::signals::HomeSignal;
+use rules::signals::SectionState;
+use rules::slips::Slip;
 use trains::places::Place;
 
 // The post that a train leaves the section for.
@@ -54,20 +53,6 @@ fn changed(state: SectionState, call: Call, way: Option<Direction>) -> SectionSt
         (Call::LeaveSection { .. }, _) => state.with_pedal(true),
         (Call::RestoreSection { .. }, _) => state.with_pedal(false),
         _ => state,
-    }
-}
-
-// The slip that an accepted call hands out.
-fn slip_of(call: Call) -> Option<Slip>
-    ensures { λ r. ⌜ r ≡ slip-of call ⌝ }
-{
-    match call {
-        Call::UnsealSection { section, direction } => Some(Slip {
-            section,
-            direction,
-            owed: true,
-        }),
-        _ => None,
     }
 }
 
@@ -197,6 +182,6 @@ impl<I: BlockInstrument> Line<I> {
         self.ask(call)?;
         self.apply_to_section(call, way);
         self.apply_to_trains(call, way);
-        Ok(slip_of(call))
+        Ok(Slip::of(call))
     }
 }

@@ -1,7 +1,7 @@
 use mathlib.Core.Path.{refl}
 use Rattle.block.specs.Meaning.{answer, after}
-use Rattle.line.specs.Checks.{refusal}
-use Rattle.line.specs.Effects.{effect}
+use Rattle.rules.specs.Checks.{refusal}
+use Rattle.rules.specs.Effects.{effect}
 use Rattle.turn.specs.Turn.{turn-refusal, step}
 use Rattle.turn.specs.Worked.{WorkedTurn}
 use Rattle.turn.proofs.Law.{law}

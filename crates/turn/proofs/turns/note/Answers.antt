@@ -7,7 +7,7 @@ use lib.ListN.{length}
 use Rattle.std.specs.Options.{isSome}
 use Rattle.std.specs.declared.result.Result.the-variants.{Ok, Err}
 use Rattle.book.specs.Entered.{entered}
-use Rattle.line.specs.Slips.{seal-row-of}
+use Rattle.rules.specs.Slips.{seal-row-of}
 use Rattle.turn.specs.Turns.{book-of, slip-rows}
 use Rattle.turn.proofs.turns.note.Needs as need
 

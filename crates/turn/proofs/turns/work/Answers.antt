@@ -5,8 +5,8 @@ use Rattle.std.proofs.shelf.Results.{err-from-errBy}
 use Rattle.std.specs.Options.{isSome, mapped}
 use Rattle.std.specs.declared.option.Option.the-variants.{None, Some}
 use Rattle.std.specs.declared.result.Result.the-variants.{Ok, Err}
-use Rattle.line.specs.Checks.{refusal}
-use Rattle.line.specs.Slips.{slip-of}
+use Rattle.rules.specs.Checks.{refusal}
+use Rattle.rules.specs.Slips.{slip-of}
 use Rattle.line.proofs.Parts.{after-refused, after-accepted}
 use Rattle.turn.specs.Turn.{turn-refusal, answer-of, step}
 use Rattle.turn.specs.Turns.{book-of, turn-of, slip-rows}

@@ -2,12 +2,12 @@ use mathlib.Core.Path.{_≡_, refl, sym, ap, _∙_}
 use Rattle.std.proofs.shelf.Results.{err-from-errBy}
 use Rattle.std.specs.declared.option.Option.the-variants.{None, Some}
 use Rattle.std.specs.declared.result.Result.the-variants.{Ok, Err}
-use Rattle.line.specs.Calls.{section-of, direction-of, action-of}
-use Rattle.line.specs.Checks.{refusal}
-use Rattle.line.specs.Effects.{effect, section-effect, sections-effect, trains-effect}
+use Rattle.rules.specs.Calls.{section-of, direction-of, action-of}
+use Rattle.rules.specs.Checks.{refusal}
+use Rattle.rules.specs.Effects.{effect, section-effect, sections-effect, trains-effect}
 use Rattle.line.specs.Lines.{state, answered}
-use Rattle.line.specs.Slips.{slip-of}
-use Rattle.line.specs.State.{LineState}
+use Rattle.rules.specs.Slips.{slip-of}
+use Rattle.rules.specs.State.{LineState}
 use Rattle.line.specs.Working.{with-phases}
 use Rattle.line.proofs.Parts.{refused-unfit, refused-own, left-to-ask, after-refused, after-accepted, asked-in-vain, told-ok, told-err}
 use Rattle.line.proofs.lines.Line.call.Given as given
@@ -68,6 +68,6 @@ returns g c =
     ∙ ap (λ (x : LineState). trains-effect call (c .direction-of-way .result) (x .trains)) asked ∙ ap (λ o. trains-effect call o (s .trains)) way
     in
     record {
-      answered = ap Ok (c .slip-of .ensures) ∙ sym (ap (λ o. answered o (slip-of call)) accepted);
+      answered = ap Ok (c .of .ensures) ∙ sym (ap (λ o. answered o (slip-of call)) accepted);
       followed = (λ i. record { condition = condition i; phases = phases i; sections = sections i; trains = trains i }) ∙ sym (after-accepted s call accepted);
     }

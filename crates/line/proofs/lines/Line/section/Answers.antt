@@ -1,7 +1,7 @@
 use mathlib.Core.Path.{sym}
 use native.Mathlib.Omega.{arith}
 use Rattle.std.proofs.shelf.Lists.{getD-past}
-use Rattle.line.specs.State.{idle}
+use Rattle.rules.specs.State.{idle}
 use Rattle.line.proofs.lines.Line.section.Needs as need
 
 pub returns-else-section-lt16 : need.returns-else-section-lt16

@@ -1,7 +1,7 @@
 use mathlib.Core.Path.{sym, ap, _∙_}
 use native.Mathlib.Omega.{arith}
 use Rattle.std.proofs.shelf.Lists.{drop-all}
-use Rattle.line.specs.Checks.{first-refusal}
+use Rattle.rules.specs.Checks.{first-refusal}
 use Rattle.line.proofs.FirstChecks.{first-found, first-passed}
 use Rattle.line.proofs.lines.examining.first_refusal.Needs as need
 

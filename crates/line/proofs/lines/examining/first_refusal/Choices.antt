@@ -1,6 +1,6 @@
 use mathlib.Core.Path.{_≡_}
 use lib.ListN.{drop}
-use Rattle.line.specs.Checks.{first-refusal}
+use Rattle.rules.specs.Checks.{first-refusal}
 use Rattle.line.proofs.lines.examining.first_refusal.Given as given
 
 abbrev pub Inv-loop-check : given.InvT-loop-check

@@ -9,14 +9,14 @@ use Rattle.block.specs.declared.order.Direction.{Direction}
 use Rattle.block.specs.declared.order.Phase.{Phase}
 use Rattle.std.specs.declared.option.Option.{Option}
 use Rattle.std.specs.declared.option.Option.the-variants.{None, Some}
-use Rattle.line.specs.Calls.{section-of, direction-of, action-of}
-use Rattle.line.specs.State.{LineState, section-at, with-block, with-home, with-pedal}
+use Rattle.rules.specs.Calls.{section-of, direction-of, action-of}
+use Rattle.rules.specs.State.{LineState, section-at, with-block, with-home, with-pedal}
 use Rattle.trains.specs.Trains.{put-first, is-free, bears, free, taken, exit-post}
-use Rattle.line.specs.declared.calls.Call.{Call}
-use Rattle.line.specs.declared.calls.Call.the-variants.{PlaceTrain, WithdrawTrain, GiveRelease, OpenSignal, CloseSignal, EnterSection, ReturnRelease, OpenHome, ShutHome, ReachPedal, LeaveSection, ClearSection, UnsealSection, RestoreSection}
-use Rattle.line.specs.declared.signals.BlockSignal.the-variants.{Closed, Open, Fallen}
-use Rattle.line.specs.declared.signals.HomeSignal.the-variants.{Shut, Open as HomeOpen}
-use Rattle.line.specs.declared.signals.SectionState.{SectionState}
+use Rattle.rules.specs.declared.calls.Call.{Call}
+use Rattle.rules.specs.declared.calls.Call.the-variants.{PlaceTrain, WithdrawTrain, GiveRelease, OpenSignal, CloseSignal, EnterSection, ReturnRelease, OpenHome, ShutHome, ReachPedal, LeaveSection, ClearSection, UnsealSection, RestoreSection}
+use Rattle.rules.specs.declared.signals.BlockSignal.the-variants.{Closed, Open, Fallen}
+use Rattle.rules.specs.declared.signals.HomeSignal.the-variants.{Shut, Open as HomeOpen}
+use Rattle.rules.specs.declared.signals.SectionState.{SectionState}
 use Rattle.trains.specs.declared.places.Place.{Place}
 use Rattle.trains.specs.declared.places.Place.the-variants.{AtPost, Running, OnPedal}
 use Rattle.trains.specs.declared.places.TrainRecord.{TrainRecord}

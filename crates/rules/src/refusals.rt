@@ -1,8 +1,8 @@
 // What the line says where it refuses.
 ghost use mathlib.Core.Path.{_≡_};
-ghost use Rattle.line.specs.Checks.{unfit};
-ghost use Rattle.line.specs.Numbers.{line-number};
-ghost use Rattle.line.specs.declared.refusals.LineRefusal.the-variants.{Instrument};
+ghost use Rattle.rules.specs.Checks.{unfit};
+ghost use Rattle.rules.specs.Numbers.{line-number};
+ghost use Rattle.rules.specs.declared.refusals.LineRefusal.the-variants.{Instrument};
 use crate::signals::Condition;
 use block::refusals::InstrumentRefusal;
 

@@ -5,10 +5,10 @@ use Rattle.block.specs.declared.order.Action.the-variants.{Give, Open as OpenAc
 use Rattle.block.specs.declared.order.Direction.{Direction}
 use Rattle.std.specs.declared.option.Option.{Option}
 use Rattle.std.specs.declared.option.Option.the-variants.{None, Some}
-use Rattle.line.specs.State.{LineState}
+use Rattle.rules.specs.State.{LineState}
 use Rattle.trains.specs.Trains.{place-of, departs, runs, presses, stands-at}
-use Rattle.line.specs.declared.calls.Call.{Call}
-use Rattle.line.specs.declared.calls.Call.the-variants.{PlaceTrain, WithdrawTrain, GiveRelease, OpenSignal, CloseSignal, EnterSection, ReturnRelease, OpenHome, ShutHome, ReachPedal, LeaveSection, ClearSection, UnsealSection, RestoreSection}
+use Rattle.rules.specs.declared.calls.Call.{Call}
+use Rattle.rules.specs.declared.calls.Call.the-variants.{PlaceTrain, WithdrawTrain, GiveRelease, OpenSignal, CloseSignal, EnterSection, ReturnRelease, OpenHome, ShutHome, ReachPedal, LeaveSection, ClearSection, UnsealSection, RestoreSection}
 
 -- the train that a call names
 abbrev pub train-of : Call → Option ℕ

@@ -10,15 +10,15 @@ use Rattle.std.specs.Options.{isSome, mapped}
 use Rattle.std.specs.Results.{errPart}
 use Rattle.std.specs.declared.option.Option.{Option}
 use Rattle.std.specs.declared.option.Option.the-variants.{None, Some}
-use Rattle.line.specs.Calls.{section-of, direction-of, post-of, action-of}
-use Rattle.line.specs.State.{LineState, count, section-at, block-signal, home-signal, is-closed, is-open, home-is-open}
+use Rattle.rules.specs.Calls.{section-of, direction-of, post-of, action-of}
+use Rattle.rules.specs.State.{LineState, count, section-at, block-signal, home-signal, is-closed, is-open, home-is-open}
 use Rattle.trains.specs.Trains.{place-of, any, is-free, occupied, pedal-pressed}
-use Rattle.line.specs.declared.calls.Call.{Call}
-use Rattle.line.specs.declared.calls.Call.the-variants.{PlaceTrain, WithdrawTrain, GiveRelease, OpenSignal, CloseSignal, EnterSection, ReturnRelease, OpenHome, ShutHome, ReachPedal, LeaveSection, ClearSection, UnsealSection, RestoreSection}
-use Rattle.line.specs.declared.refusals.LineRefusal.{LineRefusal}
-use Rattle.line.specs.declared.refusals.LineRefusal.the-variants.{NoSectionAtAll, MadeUnsettled, SectionUnknown, PostUnknown, TrainUnknown, TrainPresent, TableFull, TrainAbsent, TrainElsewhere, BlockSignalWrong, HomeSignalWrong, PedalWrong, SectionOccupied, Instrument}
-use Rattle.line.specs.declared.signals.Condition.{Condition}
-use Rattle.line.specs.declared.signals.Condition.the-variants.{Sound, Sectionless, Unsettled}
+use Rattle.rules.specs.declared.calls.Call.{Call}
+use Rattle.rules.specs.declared.calls.Call.the-variants.{PlaceTrain, WithdrawTrain, GiveRelease, OpenSignal, CloseSignal, EnterSection, ReturnRelease, OpenHome, ShutHome, ReachPedal, LeaveSection, ClearSection, UnsealSection, RestoreSection}
+use Rattle.rules.specs.declared.refusals.LineRefusal.{LineRefusal}
+use Rattle.rules.specs.declared.refusals.LineRefusal.the-variants.{NoSectionAtAll, MadeUnsettled, SectionUnknown, PostUnknown, TrainUnknown, TrainPresent, TableFull, TrainAbsent, TrainElsewhere, BlockSignalWrong, HomeSignalWrong, PedalWrong, SectionOccupied, Instrument}
+use Rattle.rules.specs.declared.signals.Condition.{Condition}
+use Rattle.rules.specs.declared.signals.Condition.the-variants.{Sound, Sectionless, Unsettled}
 
 -- one check: its refusal where the ground for it holds
 abbrev pub refused-if : Bool → LineRefusal → Option LineRefusal

@@ -1,6 +1,6 @@
 // What a section has besides its phase: signals and a pedal mark.
 ghost use mathlib.Core.Path.{_≡_};
-ghost use Rattle.line.specs.State.{signals, is-closed, is-open, home-is-open, with-signals, with-block, with-home, with-pedal};
+ghost use Rattle.rules.specs.State.{signals, is-closed, is-open, home-is-open, with-signals, with-block, with-home, with-pedal};
 use block::order::Direction;
 
 // Fallen: a train has dropped the arm, and the lever is still pulled.

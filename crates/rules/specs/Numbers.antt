@@ -2,8 +2,8 @@
 use mathlib.Core.List.{List, [], _∷_}
 use Prim.Native.Nat.{ℕ}
 use Rattle.block.specs.Refusals.{number, section-value, direction-value, phase-value}
-use Rattle.line.specs.declared.refusals.LineRefusal.{LineRefusal}
-use Rattle.line.specs.declared.refusals.LineRefusal.the-variants.{NoSectionAtAll, MadeUnsettled, SectionUnknown, PostUnknown, TrainUnknown, TrainPresent, TableFull, TrainAbsent, TrainElsewhere, BlockSignalWrong, HomeSignalWrong, PedalWrong, SectionOccupied, Instrument}
+use Rattle.rules.specs.declared.refusals.LineRefusal.{LineRefusal}
+use Rattle.rules.specs.declared.refusals.LineRefusal.the-variants.{NoSectionAtAll, MadeUnsettled, SectionUnknown, PostUnknown, TrainUnknown, TrainPresent, TableFull, TrainAbsent, TrainElsewhere, BlockSignalWrong, HomeSignalWrong, PedalWrong, SectionOccupied, Instrument}
 
 abbrev pub line-number : LineRefusal → ℕ
 line-number NoSectionAtAll = 201

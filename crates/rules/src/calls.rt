@@ -1,6 +1,6 @@
 // The fourteen calls, with the letter of each.
 ghost use mathlib.Core.Path.{_≡_};
-ghost use Rattle.line.specs.Calls.{train-of, section-of};
+ghost use Rattle.rules.specs.Calls.{train-of, section-of};
 use block::order::Direction;
 
 #[derive(Clone, Copy)]

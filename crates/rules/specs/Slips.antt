@@ -7,10 +7,10 @@ use Rattle.std.specs.declared.option.Option.the-variants.{None, Some}
 use Rattle.std.specs.declared.result.Result.{Result}
 use Rattle.std.specs.declared.result.Result.the-variants.{Ok, Err}
 use Rattle.book.specs.Entered.{full}
-use Rattle.line.specs.declared.calls.Call.{Call}
-use Rattle.line.specs.declared.calls.Call.the-variants.{PlaceTrain, WithdrawTrain, GiveRelease, OpenSignal, CloseSignal, EnterSection, ReturnRelease, OpenHome, ShutHome, ReachPedal, LeaveSection, ClearSection, UnsealSection, RestoreSection}
-use Rattle.line.specs.declared.slips.SealRow.{SealRow}
-use Rattle.line.specs.declared.slips.Slip.{Slip}
+use Rattle.rules.specs.declared.calls.Call.{Call}
+use Rattle.rules.specs.declared.calls.Call.the-variants.{PlaceTrain, WithdrawTrain, GiveRelease, OpenSignal, CloseSignal, EnterSection, ReturnRelease, OpenHome, ShutHome, ReachPedal, LeaveSection, ClearSection, UnsealSection, RestoreSection}
+use Rattle.rules.specs.declared.slips.SealRow.{SealRow}
+use Rattle.rules.specs.declared.slips.Slip.{Slip}
 
 -- the slip that an accepted call hands out
 abbrev pub slip-of : Call → Option Slip

@@ -8,14 +8,14 @@ use Rattle.block.specs.declared.order.Direction.the-variants.{Up, Down}
 use Rattle.block.specs.declared.order.Phase.{Phase}
 use Rattle.block.specs.declared.order.Phase.the-variants.{Rest}
 use Rattle.std.specs.declared.option.Option.the-variants.{None}
-use Rattle.line.specs.declared.signals.BlockSignal.{BlockSignal}
-use Rattle.line.specs.declared.signals.BlockSignal.the-variants.{Closed, Open, Fallen}
-use Rattle.line.specs.declared.signals.Condition.{Condition}
-use Rattle.line.specs.declared.signals.Condition.the-variants.{Sound}
-use Rattle.line.specs.declared.signals.HomeSignal.{HomeSignal}
-use Rattle.line.specs.declared.signals.HomeSignal.the-variants.{Shut, Open as HomeOpen}
-use Rattle.line.specs.declared.signals.SectionState.{SectionState}
-use Rattle.line.specs.declared.signals.Signals.{Signals}
+use Rattle.rules.specs.declared.signals.BlockSignal.{BlockSignal}
+use Rattle.rules.specs.declared.signals.BlockSignal.the-variants.{Closed, Open, Fallen}
+use Rattle.rules.specs.declared.signals.Condition.{Condition}
+use Rattle.rules.specs.declared.signals.Condition.the-variants.{Sound}
+use Rattle.rules.specs.declared.signals.HomeSignal.{HomeSignal}
+use Rattle.rules.specs.declared.signals.HomeSignal.the-variants.{Shut, Open as HomeOpen}
+use Rattle.rules.specs.declared.signals.SectionState.{SectionState}
+use Rattle.rules.specs.declared.signals.Signals.{Signals}
 use Rattle.trains.specs.declared.places.TrainRecord.{TrainRecord}
 
 pub record LineState : Type 0 where

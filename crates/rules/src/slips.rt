@@ -3,7 +3,8 @@ ghost use mathlib.Core.Bool.{false};
 ghost use mathlib.Core.Path.{_≡_};
 ghost use lib.ListN.{length};
 ghost use Rattle.book.specs.Entered.{entered, add-rows};
-ghost use Rattle.line.specs.Slips.{seal-row-of, enter-answer};
+ghost use Rattle.rules.specs.Slips.{slip-of, seal-row-of, enter-answer};
+use crate::calls::Call;
 use block::order::Direction;
 use book::Book;
 
@@ -17,9 +18,9 @@ pub struct SealRow {
 
 // Handed out by the line for an accepted unsealing. It has to be entered: while it is owed it cannot be let go.
 pub struct Slip {
-    pub(crate) section: u32,
-    pub(crate) direction: Direction,
-    pub(crate) owed: bool,
+    section: u32,
+    direction: Direction,
+    owed: bool,
 }
 
 impl Drop for Slip {
@@ -35,6 +36,20 @@ impl Drop for Slip {
 }
 
 impl Slip {
+    // The slip that an accepted call hands out.
+    pub fn of(call: Call) -> Option<Slip>
+        ensures { λ r. ⌜ r ≡ slip-of call ⌝ }
+    {
+        match call {
+            Call::UnsealSection { section, direction } => Some(Slip {
+                section,
+                direction,
+                owed: true,
+            }),
+            _ => None,
+        }
+    }
+
     // Enters the slip into the seal book; a full book gives it back, still owed.
     pub fn enter(self, row: usize, seals: &mut Book<'_, SealRow>) -> Result<(), Slip>
         ensures answered { λ r. ⌜ r ≡ enter-answer (now (seals .entry) .len) (now (now (seals .entry) .rows)) self ⌝ }
