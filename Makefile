@@ -2,8 +2,8 @@
 
 .PHONY: run test check
 
-run: target/bin/passage
-	target/bin/passage
+run: target/bin/shift
+	target/bin/shift
 
 test:
 	rt ci
@@ -12,5 +12,5 @@ test:
 check:
 	rt check
 
-target/bin/passage: $(shell find crates -type f)
-	rt check passage
+target/bin/shift: $(shell find crates -type f)
+	rt check shift
