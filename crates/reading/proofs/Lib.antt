@@ -1,0 +1,6 @@
+mod Lawful
+mod Fields
+mod Figures
+mod CallLines
+mod ReadingLaw
+mod Facing

@@ -1,0 +1,3 @@
+// A turn sheet, read line by line.
+pub mod laws;
+mod reader;
