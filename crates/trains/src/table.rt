@@ -151,8 +151,8 @@ impl TrainTable {
     pub fn add(&mut self, number: u32, place: Place)
         ensures { λ _. ⌜ now (self .exit) .records ≡ put-first is-free (taken number place) (now (self .entry) .records) ⌝ }
     {
-        if let Some(i) = self.first(&Free) {
-            self.records[i].hold(number, place);
+        if let Some(free) = self.first(&Free) {
+            self.records[free].hold(number, place);
         }
     }
 
