@@ -16,8 +16,8 @@ use turn::tallies::tally;
 use writing::{put, put_field};
 
 fn phase_code<I: BlockInstrument>(line: &Line<I>, section: u32) -> u8
-    requires { section < count (state phases line.now) }
-    ensures { result ≡ phase_code (phase_at (state phases line.now).phases section) }
+    requires { section < count (state I.phases line.now) }
+    ensures { result ≡ phase_code (phase_at (state I.phases line.now).phases section) }
 {
     match line.phase(section) {
         Ok(phase) => phase.code(),
@@ -32,9 +32,9 @@ fn put_section<I: BlockInstrument>(
     register: &Book<'_, RegisterRow>,
     section: u32,
 )
-    requires { section < count (state phases line.now) }
-    ensures wrote { pen_of answer.new ≡ wrote (section_text (state phases line.now) (book_of register.now).rows section) (pen_of answer.old) }
-    ensures short { section < 100 → length (book_of register.now).rows < 10000 → length (section_text (state phases line.now) (book_of register.now).rows section) ≤ 33 }
+    requires { section < count (state I.phases line.now) }
+    ensures wrote { pen_of answer.new ≡ wrote (section_text (state I.phases line.now) (book_of register.now).rows section) (pen_of answer.old) }
+    ensures short { section < 100 → length (book_of register.now).rows < 10000 → length (section_text (state I.phases line.now) (book_of register.now).rows section) ≤ 33 }
     ensures lender { answer.new.rows.ghost_name ≡ answer.old.rows.ghost_name }
 {
     let phase = phase_code(line, section);
@@ -56,8 +56,8 @@ pub fn put_sections<I: BlockInstrument>(
     line: &Line<I>,
     register: &Book<'_, RegisterRow>,
 )
-    ensures wrote { pen_of answer.new ≡ wrote (section_texts (state phases line.now) (book_of register.now).rows (count (state phases line.now))) (pen_of answer.old) }
-    ensures short { count (state phases line.now) ≤ 16 → length (book_of register.now).rows < 10000 → length (section_texts (state phases line.now) (book_of register.now).rows (count (state phases line.now))) ≤ 33 * 16 }
+    ensures wrote { pen_of answer.new ≡ wrote (section_texts (state I.phases line.now) (book_of register.now).rows (count (state I.phases line.now))) (pen_of answer.old) }
+    ensures short { count (state I.phases line.now) ≤ 16 → length (book_of register.now).rows < 10000 → length (section_texts (state I.phases line.now) (book_of register.now).rows (count (state I.phases line.now))) ≤ 33 * 16 }
     ensures lender { answer.new.rows.ghost_name ≡ answer.old.rows.ghost_name }
 {
     for section in 0..line.count() {

@@ -45,10 +45,10 @@ pub fn try_action<I: BlockInstrument>(
     section: u32,
     direction: Direction,
 ) -> Attempt
-    ensures answered { result.answer ≡ answer (phases instrument.old) action section direction }
-    ensures followed { phases instrument.new ≡ after (phases instrument.old) action section direction }
-    ensures phase { result.phase ≡ phase_answer (phases instrument.new) section }
-    ensures step { Step (phases instrument.old) action section direction }
+    ensures answered { result.answer ≡ answer (I.phases instrument.old) action section direction }
+    ensures followed { I.phases instrument.new ≡ after (I.phases instrument.old) action section direction }
+    ensures phase { result.phase ≡ phase_answer (I.phases instrument.new) section }
+    ensures step { Step (I.phases instrument.old) action section direction }
 {
     let answer = instrument.operate(action, section, direction);
     let phase = instrument.phase(section);

@@ -1,5 +1,7 @@
 // Plays worked examples, and compares each answer with the one that it must have: prints a line for each example, and ends with
 // an error at the first that differs.
+#![tactic(auto)]
+
 use crate::cases::check;
 use crate::limits::check_limits;
 use crate::sheets::SHEETS;

@@ -1,4 +1,6 @@
 // The makes of block instrument, and the fault reader.
+#![tactic(auto)]
+
 pub mod faults;
 pub mod interlocked;
 pub mod piles;

@@ -45,7 +45,7 @@ pub struct Sections<R> {
 impl<R: SectionRecord> Sections<R> {
     // All sections at rest; a count above sixteen makes sixteen.
     pub fn new(count: u32) -> Self
-        ensures { row shows result.count result.records ≡ replicate (min count 16) Rest }
+        ensures { row R.shows result.count result.records ≡ replicate (min count 16) Rest }
     {
         Sections {
             records: [R::at_rest(); 16],

@@ -1,4 +1,6 @@
 // The function that a panel, a C program, calls.
+#![tactic(auto)]
+
 ghost use Rattle.std.specs.Prelude.{◌≡◌, length};
 ghost use Rattle.panel.specs.Numbers.{panel_number};
 ghost use Rattle.sheet.specs.Sheets.{sheet_answer, answered_buffer, SheetLaw};

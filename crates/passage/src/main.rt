@@ -1,5 +1,7 @@
 // Works a passage up and one down through each section of an interlocked, a telephone and a mixed instrument, and prints
 // what came of each action.
+#![tactic(auto)]
+
 ghost use Rattle.std.specs.Prelude.{◌≡◌};
 ghost use Rattle.passage.specs.Names.{opposite_of};
 

@@ -1,4 +1,6 @@
 // Plays a turn sheet from standard input, and prints its answer, or `no` and the number of its refusal.
+#![tactic(auto)]
+
 use answers::texts::put_refusal;
 use book::Book;
 use sheet::sheets::{MOST_ANSWER, MOST_BYTES, play_sheet};

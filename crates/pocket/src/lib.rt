@@ -1,4 +1,6 @@
 // A make of another kind, for trying the line: one section, kept as its phase and nothing else.
+#![tactic(auto)]
+
 ghost use Rattle.std.specs.Prelude.{◌≡◌, [], ◌∷◌};
 ghost use Rattle.pocket.specs.Single.{single_few};
 ghost use Rattle.block.specs.declared.order.Phase.TheVariants.{Rest};

@@ -1,4 +1,6 @@
 // A turn sheet, read line by line.
+#![tactic(auto)]
+
 pub mod calls;
 pub mod headings;
 pub mod laws;

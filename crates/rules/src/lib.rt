@@ -1,4 +1,6 @@
 // The rules of the line: its calls and signals, what a refusal says, and the slip of an unsealing.
+#![tactic(auto)]
+
 pub mod calls;
 pub mod refusals;
 pub mod signals;

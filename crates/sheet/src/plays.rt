@@ -29,8 +29,8 @@ pub fn work_line<I: BlockInstrument>(
     seals: &mut Book<'_, SealRow>,
     text: &[u8],
 ) -> Result<(), SheetLineRefusal>
-    ensures answered { result ≡ told (turn_of phases line.old register.old seals.old) (reading text.now) }
-    ensures followed { turn_of phases line.new register.new seals.new ≡ after (turn_of phases line.old register.old seals.old) (reading text.now) }
+    ensures answered { result ≡ told (turn_of I.phases line.old register.old seals.old) (reading text.now) }
+    ensures followed { turn_of I.phases line.new register.new seals.new ≡ after (turn_of I.phases line.old register.old seals.old) (reading text.now) }
 {
     match read_call(text) {
         Ok(call) => {
@@ -49,8 +49,8 @@ pub fn play_line<I: BlockInstrument>(
     number: usize,
     text: &[u8],
 ) -> Result<(), SheetRefusal>
-    ensures answered { result ≡ numbered number (told (turn_of phases line.old register.old seals.old) (reading text.now)) }
-    ensures followed { turn_of phases line.new register.new seals.new ≡ after (turn_of phases line.old register.old seals.old) (reading text.now) }
+    ensures answered { result ≡ numbered number (told (turn_of I.phases line.old register.old seals.old) (reading text.now)) }
+    ensures followed { turn_of I.phases line.new register.new seals.new ≡ after (turn_of I.phases line.old register.old seals.old) (reading text.now) }
 {
     match work_line(line, register, seals, text) {
         Ok(()) => Ok(()),
@@ -70,9 +70,9 @@ pub fn play_lines<I: BlockInstrument>(
     sheet: &[u8],
     answer: &mut Book<'_, u8>,
 )
-    ensures played { turn_of phases line.new register.new seals.new ≡ run (turn_of phases line.old register.old seals.old) (readable (lines sheet.now)) }
-    ensures answered { pen_of answer.new ≡ wrote (line_answers 2 (turn_of phases line.old register.old seals.old) (lines sheet.now)) (pen_of answer.old) }
-    ensures lawful { New (turn_of phases line.old register.old seals.old) → TurnLaw (turn_of phases line.old register.old seals.old) (readable (lines sheet.now)) }
+    ensures played { turn_of I.phases line.new register.new seals.new ≡ run (turn_of I.phases line.old register.old seals.old) (readable (lines sheet.now)) }
+    ensures answered { pen_of answer.new ≡ wrote (line_answers 2 (turn_of I.phases line.old register.old seals.old) (lines sheet.now)) (pen_of answer.old) }
+    ensures lawful { New (turn_of I.phases line.old register.old seals.old) → TurnLaw (turn_of I.phases line.old register.old seals.old) (readable (lines sheet.now)) }
     ensures lender { answer.new.rows.ghost_name ≡ answer.old.rows.ghost_name }
 {
     let mut lines = Lines::new(sheet);

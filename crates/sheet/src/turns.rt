@@ -47,7 +47,7 @@ fn play_over<I: BlockInstrument>(
 where
     I: Drop,
     requires good { GoodHeading heading }
-    requires at_rest { phases instrument ≡ replicate heading.sections Rest }
+    requires at_rest { I.phases instrument ≡ replicate heading.sections Rest }
     ensures answered { pen_of answer.new ≡ wrote (played_text heading (lines sheet.now)) (pen_of answer.old) }
     ensures short { length (lines sheet.now) < 9000 → length (played_text heading (lines sheet.now)) ≤ least_room (length (lines sheet.now)) }
     ensures lawful { TurnLaw (first_turn heading) (readable (lines sheet.now)) }

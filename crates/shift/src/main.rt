@@ -1,5 +1,7 @@
 // Plays a short turn over instruments of every make, and prints each call with its answer; at the end, of each section the
 // phase, the train inside it or 0, and its tally.
+#![tactic(auto)]
+
 use crate::texts::{AnswerText, CallText};
 use block::instruments::BlockInstrument;
 use block::order::Direction;

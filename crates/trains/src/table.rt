@@ -93,7 +93,7 @@ impl TrainTable {
 
     // The place in the table of the first record that passes.
     fn first<T: RecordTest>(&self, sought: &T) -> Option<usize>
-        ensures value { result ≡ first_from 0 (test sought.now) self.now.records }
+        ensures value { result ≡ first_from 0 (T.test sought.now) self.now.records }
         ensures within { IfSome result (λ i. i < 64) }
     {
         for i in 0..64usize {

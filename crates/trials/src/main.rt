@@ -1,4 +1,6 @@
 // Tries every action in every phase, at the ends of instruments of every make, and prints the numbers of the answers.
+#![tactic(auto)]
+
 use block::instruments::BlockInstrument;
 use block::order::{Action, Direction};
 use makes::interlocked::Interlocked;

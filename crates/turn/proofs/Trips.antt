@@ -60,8 +60,8 @@ module _ (rows : List RegisterRow) (n : ℕ) (x : RegisterRow) where
   came_either : (i : ℕ) → Came (rows ++ x ∷ []) n i → Came rows n i ⊎ ((i ≡ length rows) × ((x.kind ≡ Entry) × (x.train ≡ Some n)))
   came_either i c =
       ⊎_elim
-      (λ h. inl (record { row = c.row; stands = h; kind_is = c.kind-is; train_is = c.train-is }))
-      (λ p. inr (p.0, (ap (λ y. y.kind) p.1 ∙ c.kind-is, ap (λ y. y.train) p.1 ∙ c.train-is)))
+      (λ h. inl (record { row = c.row; stands = h; kind_is = c.kind_is; train_is = c.train_is }))
+      (λ p. inr (p.0, (ap (λ y. y.kind) p.1 ∙ c.kind_is, ap (λ y. y.train) p.1 ∙ c.train_is)))
       (either rows x i c.row c.stands)
 
   left_either : (i : ℕ) → Left (rows ++ x ∷ []) n i → Left rows n i ⊎ ((x.kind ≡ Leaving) × (x.train ≡ Some n))

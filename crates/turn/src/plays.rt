@@ -23,9 +23,9 @@ pub fn play<I: BlockInstrument>(
     told: &mut [Result<(), TurnRefusal>],
 ) -> usize
     ensures count { result ≡ min (length calls.now) (length told.old) }
-    ensures played { turn_of phases line.new register.new seals.new ≡ run (turn_of phases line.old register.old seals.old) (take result calls.now) }
-    ensures answered { told.new ≡ answers (turn_of phases line.old register.old seals.old) (take result calls.now) ++ drop result told.old }
-    ensures lawful { New (turn_of phases line.old register.old seals.old) → TurnLaw (turn_of phases line.old register.old seals.old) (take result calls.now) }
+    ensures played { turn_of I.phases line.new register.new seals.new ≡ run (turn_of I.phases line.old register.old seals.old) (take result calls.now) }
+    ensures answered { told.new ≡ answers (turn_of I.phases line.old register.old seals.old) (take result calls.now) ++ drop result told.old }
+    ensures lawful { New (turn_of I.phases line.old register.old seals.old) → TurnLaw (turn_of I.phases line.old register.old seals.old) (take result calls.now) }
 {
     let n = calls.len().min(told.len());
     for i in 0..n {

@@ -84,7 +84,7 @@ impl Kind {
 impl RegisterRow {
     // The row of an accepted call, on the line as it stands before the call.
     pub fn of<I: BlockInstrument>(line: &Line<I>, call: Call) -> RegisterRow
-        ensures { result ≡ row_of (state phases line.now) call }
+        ensures { result ≡ row_of (state I.phases line.now) call }
     {
         RegisterRow {
             kind: Kind::of(call),

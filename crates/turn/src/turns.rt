@@ -66,8 +66,8 @@ pub fn work<I: BlockInstrument>(
     seals: &mut Book<'_, SealRow>,
     call: Call,
 ) -> Result<(), TurnRefusal>
-    ensures answered { result ≡ turn_answer (turn_of phases line.old register.old seals.old) call }
-    ensures followed { turn_of phases line.new register.new seals.new ≡ step (turn_of phases line.old register.old seals.old) call }
+    ensures answered { result ≡ turn_answer (turn_of I.phases line.old register.old seals.old) call }
+    ensures followed { turn_of I.phases line.new register.new seals.new ≡ step (turn_of I.phases line.old register.old seals.old) call }
 {
     admit(register, seals, call)?;
     let row = RegisterRow::of(line, call);

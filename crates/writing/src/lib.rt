@@ -1,4 +1,6 @@
 // Writing an answer: bytes, entered into a lent buffer for as long as it has room.
+#![tactic(auto)]
+
 ghost use Rattle.std.specs.Prelude.{◌≡◌, [], ◌∷◌, length, decimal};
 ghost use Rattle.writing.specs.Pens.{pen_of, wrote};
 

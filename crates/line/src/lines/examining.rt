@@ -39,7 +39,7 @@ fn train_unknown(train: u32) -> Option<LineRefusal>
 
 impl<I: BlockInstrument> Line<I> {
     fn section_unknown(&self, section: u32) -> Option<LineRefusal>
-        ensures { result ≡ section_unknown (state phases self.now) section }
+        ensures { result ≡ section_unknown (state I.phases self.now) section }
     {
         refused_if(
             section >= self.instrument.count(),
@@ -48,13 +48,13 @@ impl<I: BlockInstrument> Line<I> {
     }
 
     fn post_unknown(&self, post: u32) -> Option<LineRefusal>
-        ensures { result ≡ post_unknown (state phases self.now) post }
+        ensures { result ≡ post_unknown (state I.phases self.now) post }
     {
         refused_if(post > self.instrument.count(), LineRefusal::PostUnknown)
     }
 
     fn train_present(&self, train: u32) -> Option<LineRefusal>
-        ensures { result ≡ train_present (state phases self.now) train }
+        ensures { result ≡ train_present (state I.phases self.now) train }
     {
         refused_if(
             self.trains.place_of(train).is_some(),
@@ -63,7 +63,7 @@ impl<I: BlockInstrument> Line<I> {
     }
 
     fn train_absent(&self, train: u32) -> Option<LineRefusal>
-        ensures { result ≡ train_absent (state phases self.now) train }
+        ensures { result ≡ train_absent (state I.phases self.now) train }
     {
         refused_if(
             !self.trains.place_of(train).is_some(),
@@ -72,20 +72,20 @@ impl<I: BlockInstrument> Line<I> {
     }
 
     fn table_full(&self) -> Option<LineRefusal>
-        ensures { result ≡ table_full (state phases self.now) }
+        ensures { result ≡ table_full (state I.phases self.now) }
     {
         refused_if(!self.trains.has_room(), LineRefusal::TableFull)
     }
 
     fn home_open(&self, section: u32, direction: Direction) -> Option<LineRefusal>
-        ensures { result ≡ home_open (state phases self.now) section direction }
+        ensures { result ≡ home_open (state I.phases self.now) section direction }
     {
         let signals = self.section(section).signals(direction);
         refused_if(signals.home.is_open(), LineRefusal::HomeSignalWrong)
     }
 
     fn home_shut(&self, section: u32, direction: Direction) -> Option<LineRefusal>
-        ensures { result ≡ home_shut (state phases self.now) section direction }
+        ensures { result ≡ home_shut (state I.phases self.now) section direction }
     {
         let signals = self.section(section).signals(direction);
         refused_if(!signals.home.is_open(), LineRefusal::HomeSignalWrong)
@@ -94,7 +94,7 @@ impl<I: BlockInstrument> Line<I> {
 
 impl<I: BlockInstrument> Line<I> {
     fn may_place(&self, train: u32, post: u32) -> Option<LineRefusal>
-        ensures { result ≡ first_refusal (own_checks (state phases self.now) (PlaceTrain train post)) }
+        ensures { result ≡ first_refusal (own_checks (state I.phases self.now) (PlaceTrain train post)) }
     {
         first_refusal(&[
             train_unknown(train),
@@ -105,7 +105,7 @@ impl<I: BlockInstrument> Line<I> {
     }
 
     fn may_withdraw(&self, train: u32) -> Option<LineRefusal>
-        ensures { result ≡ first_refusal (own_checks (state phases self.now) (WithdrawTrain train)) }
+        ensures { result ≡ first_refusal (own_checks (state I.phases self.now) (WithdrawTrain train)) }
     {
         first_refusal(&[
             train_unknown(train),
@@ -116,13 +116,13 @@ impl<I: BlockInstrument> Line<I> {
 
     // A give and an open are the instrument's to refuse.
     fn may_ask(&self, section: u32, direction: Direction) -> Option<LineRefusal>
-        ensures { result ≡ first_refusal (own_checks (state phases self.now) (GiveRelease section direction)) }
+        ensures { result ≡ first_refusal (own_checks (state I.phases self.now) (GiveRelease section direction)) }
     {
         first_refusal(&[self.section_unknown(section)])
     }
 
     fn may_close(&self, section: u32, direction: Direction) -> Option<LineRefusal>
-        ensures { result ≡ first_refusal (own_checks (state phases self.now) (CloseSignal section direction)) }
+        ensures { result ≡ first_refusal (own_checks (state I.phases self.now) (CloseSignal section direction)) }
     {
         let signals = self.section(section).signals(direction);
         first_refusal(&[
@@ -132,7 +132,7 @@ impl<I: BlockInstrument> Line<I> {
     }
 
     fn may_return(&self, section: u32, direction: Direction) -> Option<LineRefusal>
-        ensures { result ≡ first_refusal (own_checks (state phases self.now) (ReturnRelease section direction)) }
+        ensures { result ≡ first_refusal (own_checks (state I.phases self.now) (ReturnRelease section direction)) }
     {
         let signals = self.section(section).signals(direction);
         first_refusal(&[
@@ -143,7 +143,7 @@ impl<I: BlockInstrument> Line<I> {
 
     // A home signal is opened, and a section restored, under a shut home signal.
     fn may_open_home(&self, section: u32, direction: Direction) -> Option<LineRefusal>
-        ensures { result ≡ first_refusal (own_checks (state phases self.now) (OpenHome section direction)) }
+        ensures { result ≡ first_refusal (own_checks (state I.phases self.now) (OpenHome section direction)) }
     {
         first_refusal(&[
             self.section_unknown(section),
@@ -152,7 +152,7 @@ impl<I: BlockInstrument> Line<I> {
     }
 
     fn may_shut_home(&self, section: u32, direction: Direction) -> Option<LineRefusal>
-        ensures { result ≡ first_refusal (own_checks (state phases self.now) (ShutHome section direction)) }
+        ensures { result ≡ first_refusal (own_checks (state I.phases self.now) (ShutHome section direction)) }
     {
         first_refusal(&[
             self.section_unknown(section),
@@ -165,7 +165,7 @@ impl<I: BlockInstrument> Line<I> {
     }
 
     fn may_clear(&self, section: u32, direction: Direction) -> Option<LineRefusal>
-        ensures { result ≡ first_refusal (own_checks (state phases self.now) (ClearSection section direction)) }
+        ensures { result ≡ first_refusal (own_checks (state I.phases self.now) (ClearSection section direction)) }
     {
         first_refusal(&[
             self.section_unknown(section),
@@ -175,7 +175,7 @@ impl<I: BlockInstrument> Line<I> {
     }
 
     fn may_unseal(&self, section: u32, direction: Direction) -> Option<LineRefusal>
-        ensures { result ≡ first_refusal (own_checks (state phases self.now) (UnsealSection section direction)) }
+        ensures { result ≡ first_refusal (own_checks (state I.phases self.now) (UnsealSection section direction)) }
     {
         first_refusal(&[
             self.section_unknown(section),
@@ -196,7 +196,7 @@ impl<I: BlockInstrument> Line<I> {
         way: Option<Direction>,
         signal: Option<LineRefusal>,
     ) -> Option<LineRefusal>
-        ensures { result ≡ first_refusal (train_unknown train ∷ section_unknown (state phases self.now) section ∷ train_absent (state phases self.now) train ∷ elsewhere way ∷ signal ∷ []) }
+        ensures { result ≡ first_refusal (train_unknown train ∷ section_unknown (state I.phases self.now) section ∷ train_absent (state I.phases self.now) train ∷ elsewhere way ∷ signal ∷ []) }
     {
         first_refusal(&[
             train_unknown(train),
@@ -208,7 +208,7 @@ impl<I: BlockInstrument> Line<I> {
     }
 
     fn may_enter(&self, train: u32, section: u32) -> Option<LineRefusal>
-        ensures { result ≡ first_refusal (own_checks (state phases self.now) (EnterSection train section)) }
+        ensures { result ≡ first_refusal (own_checks (state I.phases self.now) (EnterSection train section)) }
     {
         let way = self.direction_of(Call::EnterSection { train, section });
         let signal = match way {
@@ -222,7 +222,7 @@ impl<I: BlockInstrument> Line<I> {
     }
 
     fn may_reach(&self, train: u32, section: u32) -> Option<LineRefusal>
-        ensures { result ≡ first_refusal (own_checks (state phases self.now) (ReachPedal train section)) }
+        ensures { result ≡ first_refusal (own_checks (state I.phases self.now) (ReachPedal train section)) }
     {
         let way = self.direction_of(Call::ReachPedal { train, section });
         let signal = match way {
@@ -233,7 +233,7 @@ impl<I: BlockInstrument> Line<I> {
     }
 
     fn may_leave(&self, train: u32, section: u32) -> Option<LineRefusal>
-        ensures { result ≡ first_refusal (own_checks (state phases self.now) (LeaveSection train section)) }
+        ensures { result ≡ first_refusal (own_checks (state I.phases self.now) (LeaveSection train section)) }
     {
         let way = self.direction_of(Call::LeaveSection { train, section });
         self.may_move(train, section, way, None)
@@ -241,7 +241,7 @@ impl<I: BlockInstrument> Line<I> {
 
     // The line's own checks.
     pub(super) fn examine(&self, call: Call) -> Option<LineRefusal>
-        ensures { result ≡ first_refusal (own_checks (state phases self.now) call) }
+        ensures { result ≡ first_refusal (own_checks (state I.phases self.now) call) }
     {
         match call {
             Call::PlaceTrain { train, post } => self.may_place(train, post),

@@ -12,7 +12,7 @@ use rules::calls::Call;
 impl<I: BlockInstrument> Line<I> {
     // The post at which a train stands.
     pub fn post_of(&self, train: u32) -> Option<u32>
-        ensures { result ≡ stands_at (place_of train (state phases self.now).trains) }
+        ensures { result ≡ stands_at (place_of train (state I.phases self.now).trains) }
     {
         match self.trains.place_of(train) {
             Some(place) => place.post(),
@@ -22,7 +22,7 @@ impl<I: BlockInstrument> Line<I> {
 
     // The direction of a call: its own, or that in which its train can do what the call says.
     pub fn direction_of(&self, call: Call) -> Option<Direction>
-        ensures { result ≡ direction_of (state phases self.now) call }
+        ensures { result ≡ direction_of (state I.phases self.now) call }
     {
         match call {
             Call::PlaceTrain { .. } | Call::WithdrawTrain { .. } => None,
@@ -52,7 +52,7 @@ impl<I: BlockInstrument> Line<I> {
 
     // The post of a call: the one that it names, or the one at which its train stands.
     pub fn post_of_call(&self, call: Call) -> Option<u32>
-        ensures { result ≡ post_of (state phases self.now) call }
+        ensures { result ≡ post_of (state I.phases self.now) call }
     {
         match call {
             Call::PlaceTrain { post, .. } => Some(post),

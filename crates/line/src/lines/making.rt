@@ -20,7 +20,7 @@ fn is_rest(answer: Result<Phase, InstrumentRefusal>) -> bool
 
 // Whether every section is at rest.
 fn is_at_rest<I: BlockInstrument>(instrument: &I) -> bool
-    ensures { result ≡ at_rest (phases instrument.now) }
+    ensures { result ≡ at_rest (I.phases instrument.now) }
 {
     for section in 0..instrument.count() {
         if !is_rest(instrument.phase(section)) {
@@ -33,7 +33,7 @@ fn is_at_rest<I: BlockInstrument>(instrument: &I) -> bool
 impl<I: BlockInstrument> Line<I> {
     // All signals closed or shut, no pedal mark, no train.
     pub fn new(instrument: I) -> Line<I>
-        ensures { state phases result ≡ made (phases instrument) }
+        ensures { state I.phases result ≡ made (I.phases instrument) }
     {
         let condition = if instrument.count() == 0 {
             Condition::Sectionless

@@ -58,8 +58,8 @@ impl<I: BlockInstrument> Line<I> {
         section: u32,
         direction: Direction,
     ) -> Result<(), LineRefusal>
-        ensures answered { result ≡ told (instrument_refuses (state phases self.old) action section direction) }
-        ensures followed { state phases self.new ≡ with_phases (after (state phases self.old).phases action section direction) (state phases self.old) }
+        ensures answered { result ≡ told (instrument_refuses (state I.phases self.old) action section direction) }
+        ensures followed { state I.phases self.new ≡ with_phases (after (state I.phases self.old).phases action section direction) (state I.phases self.old) }
     {
         self.instrument.operate(action, section, direction)?;
         Ok(())
@@ -67,8 +67,8 @@ impl<I: BlockInstrument> Line<I> {
 
     // What the call asks of the instrument.
     fn ask(&mut self, call: Call) -> Result<(), LineRefusal>
-        ensures answered { result ≡ ask_answer (state phases self.old) call }
-        ensures followed { state phases self.new ≡ ask_after (state phases self.old) call }
+        ensures answered { result ≡ ask_answer (state I.phases self.old) call }
+        ensures followed { state I.phases self.new ≡ ask_after (state I.phases self.old) call }
     {
         match call {
             Call::GiveRelease { section, direction } => self.operate(
@@ -163,8 +163,8 @@ impl<I: BlockInstrument> Line<I> {
 
     // Works a call: its checks in their order, the instrument last of them, and then its effect.
     pub fn call(&mut self, call: Call) -> Result<Option<Slip>, LineRefusal>
-        ensures answered { result ≡ line_answer (state phases self.old) call }
-        ensures followed { state phases self.new ≡ line_after (state phases self.old) call }
+        ensures answered { result ≡ line_answer (state I.phases self.old) call }
+        ensures followed { state I.phases self.new ≡ line_after (state I.phases self.old) call }
     {
         if let Some(refusal) = self.condition.unfit() {
             return Err(refusal);

@@ -12,8 +12,8 @@ counted : (a : Result (List ℕ) SheetRefusal) (n : ℕ) → Ok n ≡ answer_len
 counted (Ok text) n e = let same : n ≡ length text = cc in ap pos same
 counted (Err r) n e = absurd (let z : ◌≡◌ {A = ℕ} 0 1 = cc in omega arith)
 
-pub overflow-cast-result : goal.overflow-cast-result
-overflow-cast-result c = let few = few_bytes c in search rules
+pub overflow_cast-result : goal.overflow_cast-result
+overflow_cast-result c = let few = few_bytes c in search rules
 
 pub returns-in-Ok : goal.returns-in-Ok
 returns-in-Ok c =

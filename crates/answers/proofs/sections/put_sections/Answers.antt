@@ -18,17 +18,17 @@ loop-section-preserved g c =
     let s = state g.I.BlockInstrument.phases c.args.line.now in
     let rows = (book_of c.args.register.now).rows in
     let k = c.loop-section.section in
-    let on = wrote_then p (section_texts s rows k) (section_text s rows k) c.loop-section.invariant.0 c.put-section.ensures.wrote in
+    let on = wrote_then p (section_texts s rows k) (section_text s rows k) c.loop-section.invariant.0 c.put_section.ensures.wrote in
     let here = c.loop-section-test.true in (
       on ∙ ap (λ t. wrote t p) (next_section s rows k),
       (λ few some. omega (
         arith,
         c.loop-section.invariant.1 few some,
-        c.put-section.ensures.short (omega arith) some,
+        c.put_section.ensures.short (omega arith) some,
         length-append (section_texts s rows k) (section_text s rows k),
         ap length (next_section s rows k),
       )),
-      c.put-section.ensures.lender ∙ c.loop-section.invariant.2,
+      c.put_section.ensures.lender ∙ c.loop-section.invariant.2,
     )
 
 pub returns : goal.returns

@@ -13,12 +13,12 @@ returns-in-NoSection c =
     let p = pen_of c.args.answer.now in
     record { wrote = sym (wrote_nothing p) ∙ ap (λ e. wrote (fields_of (found_values e)) p) (sym c.in-NoSection.is); lender = refl }
 
-pub returns-in-default : goal.returns-in-default
-returns-in-default c =
+pub returns-in_default : goal.returns-in_default
+returns-in_default c =
     let p = pen_of c.args.answer.now in
     let e = c.args.refusal in
-    let all = wrote_then p (field c.section.result) (field c.phase-code.result) c.put-field.ensures.wrote c.put-field-in-default.ensures.wrote in
+    let all = wrote_then p (field c.section.result) (field c.phase_code.result) c.put_field.ensures.wrote c.put_field-in_default.ensures.wrote in
     record {
-      wrote = all ∙ (λ i. wrote (field (c.section.ensures i) ++ sym (append-nil (field (c.phase-code.ensures i))) i) p) ∙ ap (λ v. wrote (fields_of v) p) (sym (found_both e c.in-default.not-NoSection));
-      lender = c.put-field-in-default.ensures.lender ∙ c.put-field.ensures.lender;
+      wrote = all ∙ (λ i. wrote (field (c.section.ensures i) ++ sym (append-nil (field (c.phase_code.ensures i))) i) p) ∙ ap (λ v. wrote (fields_of v) p) (sym (found_both e c.in_default.not-NoSection));
+      lender = c.put_field-in_default.ensures.lender ∙ c.put_field.ensures.lender;
     }

@@ -10,10 +10,10 @@ returns c =
     let p = pen_of c.args.answer.now in
     let h = c.args.heading in
     let word : List ℕ = 116 ∷ 117 ∷ 114 ∷ 110 ∷ [] in
-    let first = wrote_then p word (field h.sections) c.put-text.ensures.wrote c.put-field.ensures.wrote in
-    let second = wrote_then p (word ++ field h.sections) (field h.interlocked) first c.put-field-2.ensures.wrote in
+    let first = wrote_then p word (field h.sections) c.put_text.ensures.wrote c.put_field.ensures.wrote in
+    let second = wrote_then p (word ++ field h.sections) (field h.interlocked) first c.put_field-2.ensures.wrote in
     let all = wrote_then p (with_fields word (h.sections ∷ h.interlocked ∷ [])) (line_feed ∷ []) second c.put.ensures.wrote in
     record {
       wrote = all ∙ ap (λ t. wrote (t ++ (line_feed ∷ [])) p) (fields_after word (h.sections ∷ h.interlocked ∷ []));
-      lender = c.put.ensures.lender ∙ c.put-field-2.ensures.lender ∙ c.put-field.ensures.lender ∙ c.put-text.ensures.lender;
+      lender = c.put.ensures.lender ∙ c.put_field-2.ensures.lender ∙ c.put_field.ensures.lender ∙ c.put_text.ensures.lender;
     }

@@ -5,7 +5,7 @@ use Rattle.writing.specs.Facts.{wrote_nothing}
 use Rattle.writing.specs.Pens.{pen_of, wrote}
 use Rattle.answers.proofs.texts.put_line_values.Goals as goal
 
-pub returns-in-default : goal.returns-in-default
-returns-in-default c =
+pub returns-in_default : goal.returns-in_default
+returns-in_default c =
     let p = pen_of c.args.answer.now in
-    record { wrote = sym (wrote_nothing p) ∙ ap (λ v. wrote (fields_of v) p) (sym (line_valueless c.args.refusal c.in-default.not-Instrument)); lender = refl }
+    record { wrote = sym (wrote_nothing p) ∙ ap (λ v. wrote (fields_of v) p) (sym (line_valueless c.args.refusal c.in_default.not-Instrument)); lender = refl }

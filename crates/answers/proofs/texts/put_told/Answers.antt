@@ -10,10 +10,10 @@ returns-in-Ok c =
     let p = pen_of c.args.answer.now in
     let n = c.args.line in
     let ok : List ℕ = 32 ∷ 111 ∷ 107 ∷ 10 ∷ [] in
-    let all = wrote_then p (decimal n) ok c.put-number.ensures.wrote c.put-text.ensures.wrote in
+    let all = wrote_then p (decimal n) ok c.put_number.ensures.wrote c.put_text.ensures.wrote in
     record {
       wrote = all ∙ ap (λ t. wrote t p) (sym (ok_text n)) ∙ ap (λ r. wrote (told_text n r) p) (sym c.in-Ok.is);
-      lender = c.put-text.ensures.lender ∙ c.put-number.ensures.lender;
+      lender = c.put_text.ensures.lender ∙ c.put_number.ensures.lender;
     }
 
 pub returns-in-Err : goal.returns-in-Err
@@ -21,6 +21,6 @@ returns-in-Err c =
     let p = pen_of c.args.answer.now in
     let n = c.args.line in
     record {
-      wrote = c.put-refusal.ensures.wrote ∙ ap (λ t. wrote t p) (sym (err_text n c.in-Err.refusal)) ∙ ap (λ r. wrote (told_text n r) p) (sym c.in-Err.is);
-      lender = c.put-refusal.ensures.lender;
+      wrote = c.put_refusal.ensures.wrote ∙ ap (λ t. wrote t p) (sym (err_text n c.in-Err.refusal)) ∙ ap (λ r. wrote (told_text n r) p) (sym c.in-Err.is);
+      lender = c.put_refusal.ensures.lender;
     }

@@ -3,11 +3,11 @@ use Rattle.reading.specs.Grammar.{call_line}
 use Rattle.reading.proofs.WholeLines.{from_start, nothing_read, wholly_read, partly_read, lawful}
 use Rattle.reading.proofs.calls.read_call.Goals as goal
 
-pub returns-in-default : goal.returns-in-default
-returns-in-default c =
+pub returns-in_default : goal.returns-in_default
+returns-in_default c =
     let line = c.args.line.now in
     let to = c.call.new.self.at in
-    let s = from_start call_line line c.new-reader.result.bytes.now c.new-reader.result.at to None c.new-reader.ensures.at c.new-reader.ensures.bytes c.in-default.ensures.value c.call.ensures.stands in
+    let s = from_start call_line line c.new-reader.result.bytes.now c.new-reader.result.at to None c.new-reader.ensures.at c.new-reader.ensures.bytes c.in_default.ensures.value c.call.ensures.stands in
     let all = lawful line (Err to) (nothing_read (call_line line) to (length line) s) in
     record { value = all.value; lawful = all.lawful }
 

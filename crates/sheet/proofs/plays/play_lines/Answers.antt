@@ -10,8 +10,8 @@ use Rattle.sheet.proofs.Playing.{opened, ended, run_on, answers_on, wrote_all}
 use Rattle.sheet.proofs.plays.play_lines.Given as given
 use Rattle.sheet.proofs.plays.play_lines.Goals as goal
 
-pub overflow-add-number : goal.overflow-add-number
-overflow-add-number g c =
+pub overflow_add-number : goal.overflow_add-number
+overflow_add-number g c =
     let sheet = c.args.sheet.now in
     let counted : c.loop-text.number + length (lines c.loop-text.lines.rest.now) ≡ 2 + length (lines c.new-lines.result.rest.now) = c.loop-text.invariant.3 in
     omega (arith, counted, ap (λ l. length (lines l)) c.new-lines.ensures, few_lines sheet)
@@ -19,16 +19,16 @@ overflow-add-number g c =
 pub loop-text-preserved : goal.loop-text-preserved
 loop-text-preserved g c =
     let t = turn_of g.I.BlockInstrument.phases c.loop-text.line c.loop-text.register c.loop-text.seals in
-    let u = turn_of g.I.BlockInstrument.phases c.play-line-told.new.line c.play-line-told.new.register c.play-line-told.new.seals in
+    let u = turn_of g.I.BlockInstrument.phases c.play_line-told.new.line c.play_line-told.new.register c.play_line-told.new.seals in
     let ls = lines c.loop-text.lines.rest.now in
     let ms = lines c.next.new.self.rest.now in
     let l = c.in-Some.text.now in
     let cut = opened ls ms l c.in-Some.ensures.line c.next.ensures.rest in
     let n = c.loop-text.number in (
-      run_on ls ms l cut t u c.play-line-told.ensures.followed ∙ c.loop-text.invariant.0,
-      answers_on ls ms l cut t u c.play-line-told.ensures.followed n (n + 1) (pen_of c.loop-text.answer) (pen_of c.put-told.new.answer) c.play-line-told.result refl c.play-line-told.ensures.answered c.put-told.ensures.wrote
+      run_on ls ms l cut t u c.play_line-told.ensures.followed ∙ c.loop-text.invariant.0,
+      answers_on ls ms l cut t u c.play_line-told.ensures.followed n (n + 1) (pen_of c.loop-text.answer) (pen_of c.put_told.new.answer) c.play_line-told.result refl c.play_line-told.ensures.answered c.put_told.ensures.wrote
           ∙ c.loop-text.invariant.1,
-      c.put-told.ensures.lender ∙ c.loop-text.invariant.2,
+      c.put_told.ensures.lender ∙ c.loop-text.invariant.2,
       omega (arith, c.loop-text.invariant.3, ap length cut),
     )
 
@@ -36,7 +36,7 @@ pub returns : goal.returns
 returns g c =
     let t = turn_of g.I.BlockInstrument.phases c.args.line.now c.args.register.now c.args.seals.now in
     let here = turn_of g.I.BlockInstrument.phases c.loop-text.line c.loop-text.register c.loop-text.seals in
-    let none = ended (lines c.loop-text.lines.rest.now) c.in-default.ensures.line in
+    let none = ended (lines c.loop-text.lines.rest.now) c.in_default.ensures.line in
     let same = c.new-lines.ensures in
     let p = pen_of c.args.answer.now in
     record {

@@ -27,15 +27,15 @@ returns g c =
     let register = empty_book c.new-register.result _ 1000 c.new-register.ensures.empty c.new-register.ensures.lent refl in
     let seals = empty_book c.new-seals.result _ 50 c.new-seals.ensures.empty c.new-seals.ensures.lent refl in
     let start : t ≡ first_turn h = λ i. record { line = line i; register = register i; seals = seals i } in
-    let end = turn_of phases c.play-lines.new.line c.play-lines.new.register c.play-lines.new.seals in
-    let ran : end ≡ run (first_turn h) (readable ls) = c.play-lines.ensures.played ∙ ap (λ u. run u (readable ls)) start in
-    let answers = c.play-lines.ensures.answered ∙ ap (λ u. wrote (line_answers 2 u ls) (pen_of c.put-heading.new.answer)) start in
-    let two = wrote_then p (heading_text h) (line_answers 2 (first_turn h) ls) c.put-heading.ensures.wrote answers in
-    let all = wrote_then p (heading_text h ++ line_answers 2 (first_turn h) ls) (end_text end) two c.put-sections.ensures.wrote in
-    let room = few_rows c.play-lines.new.register 1000 (ap (λ u. u.register.room) ran ∙ run_room (first_turn h) (readable ls)) in
+    let end = turn_of phases c.play_lines.new.line c.play_lines.new.register c.play_lines.new.seals in
+    let ran : end ≡ run (first_turn h) (readable ls) = c.play_lines.ensures.played ∙ ap (λ u. run u (readable ls)) start in
+    let answers = c.play_lines.ensures.answered ∙ ap (λ u. wrote (line_answers 2 u ls) (pen_of c.put_heading.new.answer)) start in
+    let two = wrote_then p (heading_text h) (line_answers 2 (first_turn h) ls) c.put_heading.ensures.wrote answers in
+    let all = wrote_then p (heading_text h ++ line_answers 2 (first_turn h) ls) (end_text end) two c.put_sections.ensures.wrote in
+    let room = few_rows c.play_lines.new.register 1000 (ap (λ u. u.register.room) ran ∙ run_room (first_turn h) (readable ls)) in
     record {
       answered = all ∙ ap (λ u. wrote ((heading_text h ++ line_answers 2 (first_turn h) ls) ++ end_text u) p) ran ∙ ap (λ x. wrote x p) (whole_text h ls);
-      short = λ few. played_short h good ls few (omega (arith, c.put-sections.ensures.short (g.I.BlockInstrument.few c.play-lines.new.line.instrument) (omega (arith, room)), ap (λ u. length (end_text u)) ran));
+      short = λ few. played_short h good ls few (omega (arith, c.put_sections.ensures.short (g.I.BlockInstrument.few c.play_lines.new.line.instrument) (omega (arith, room)), ap (λ u. length (end_text u)) ran));
       lawful = lawful (first_turn h) (begins_new h good) (readable ls);
-      lender = c.put-sections.ensures.lender ∙ c.play-lines.ensures.lender ∙ c.put-heading.ensures.lender;
+      lender = c.put_sections.ensures.lender ∙ c.play_lines.ensures.lender ∙ c.put_heading.ensures.lender;
     }

@@ -10,9 +10,9 @@ loop-row-preserved c =
     let rows = c.filled-rows.result.now in
     let i = c.loop-row.row-index in
     let here = c.loop-row-test.true in (
-      counted Giving k rows i _ here _ _ (c.one-if-givings.ensures ∙ ap (λ b. cond b 1 0) c.tells.ensures) c.loop-row.invariant.0,
-      counted Leaving k rows i _ here _ _ (c.one-if-leavings.ensures ∙ ap (λ b. cond b 1 0) c.tells-in-loop-row.ensures) c.loop-row.invariant.1,
-      counted Unsealing k rows i _ here _ _ (c.one-if-unsealings.ensures ∙ ap (λ b. cond b 1 0) c.tells-in-loop-row-2.ensures) c.loop-row.invariant.2,
+      counted Giving k rows i _ here _ _ (c.one_if-givings.ensures ∙ ap (λ b. cond b 1 0) c.tells.ensures) c.loop-row.invariant.0,
+      counted Leaving k rows i _ here _ _ (c.one_if-leavings.ensures ∙ ap (λ b. cond b 1 0) c.tells-in-loop-row.ensures) c.loop-row.invariant.1,
+      counted Unsealing k rows i _ here _ _ (c.one_if-unsealings.ensures ∙ ap (λ b. cond b 1 0) c.tells-in-loop-row-2.ensures) c.loop-row.invariant.2,
     )
 
 pub returns : goal.returns

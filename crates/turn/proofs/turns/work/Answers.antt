@@ -12,22 +12,22 @@ use Rattle.turn.proofs.Runs.{stepped, stayed}
 use Rattle.turn.proofs.turns.work.Given as given
 use Rattle.turn.proofs.turns.work.Goals as goal
 
-pub returns-in-err-admit : goal.returns-in-err-admit
-returns-in-err-admit g c =
+pub returns-in_err-admit : goal.returns-in_err-admit
+returns-in_err-admit g c =
     let t = turn_of g.I.BlockInstrument.phases c.args.line.now c.args.register.now c.args.seals.now in
-    let p = err_from_is_err_and c.from-residual.result c.from-residual.ensures.1 in
-    let refused = not_admitted t c.args.call _ (admitted_err _ _ (sym c.admit.ensures ∙ c.in-err-admit.was)) in
+    let p = err_from_is_err_and c.from_residual.result c.from_residual.ensures.1 in
+    let refused = not_admitted t c.args.call _ (admitted_err _ _ (sym c.admit.ensures ∙ c.in_err-admit.was)) in
     record {
       answered = p.1 ∙ ap Err p.2 ∙ sym (ap answer_of refused);
       followed = sym (stayed t c.args.call _ refused);
     }
 
-pub returns-in-err-slip : goal.returns-in-err-slip
-returns-in-err-slip g c =
+pub returns-in_err-slip : goal.returns-in_err-slip
+returns-in_err-slip g c =
     let t = turn_of g.I.BlockInstrument.phases c.args.line.now c.args.register.now c.args.seals.now in
-    let p = err_from_is_err_and c.from-residual-in-err-slip.result c.from-residual-in-err-slip.ensures.1 in
-    let room = admitted_ok _ (sym c.admit.ensures ∙ c.in-ok-admit.was) in
-    let line = line_err _ _ _ (sym c.call.ensures.answered ∙ c.in-err-slip.was) in
+    let p = err_from_is_err_and c.from_residual-in_err-slip.result c.from_residual-in_err-slip.ensures.1 in
+    let room = admitted_ok _ (sym c.admit.ensures ∙ c.in_ok-admit.was) in
+    let line = line_err _ _ _ (sym c.call.ensures.answered ∙ c.in_err-slip.was) in
     let refused = left_to_line t c.args.call room ∙ ap (option_map Line) line in
     let still = c.call.ensures.followed ∙ after_refused t.line c.args.call _ line in
     record {
@@ -38,16 +38,16 @@ returns-in-err-slip g c =
 pub note-requires : goal.note-requires
 note-requires g c =
     let t = turn_of g.I.BlockInstrument.phases c.args.line.now c.args.register.now c.args.seals.now in
-    let room = has_room t.register t.seals c.args.call (admitted_ok _ (sym c.admit.ensures ∙ c.in-ok-admit.was)) in
-    let slip = (line_ok _ _ _ (sym c.call.ensures.answered ∙ c.in-ok-slip.was)).1 in
+    let room = has_room t.register t.seals c.args.call (admitted_ok _ (sym c.admit.ensures ∙ c.in_ok-admit.was)) in
+    let slip = (line_ok _ _ _ (sym c.call.ensures.answered ∙ c.in_ok-slip.was)).1 in
     record { room = room.0; seal_room = λ some. slip_room t.seals c.args.call room.1 (sym (ap is_some slip) ∙ some) }
 
 pub returns : goal.returns
 returns g c =
     let t = turn_of g.I.BlockInstrument.phases c.args.line.now c.args.register.now c.args.seals.now in
     let call = c.args.call in
-    let room = admitted_ok _ (sym c.admit.ensures ∙ c.in-ok-admit.was) in
-    let line = line_ok _ _ _ (sym c.call.ensures.answered ∙ c.in-ok-slip.was) in
+    let room = admitted_ok _ (sym c.admit.ensures ∙ c.in_ok-admit.was) in
+    let line = line_ok _ _ _ (sym c.call.ensures.answered ∙ c.in_ok-slip.was) in
     let accepted = left_to_line t call room ∙ ap (option_map Line) line.0 in
     let moved = c.call.ensures.followed ∙ after_accepted t.line call line.0 in
     let rows = c.note.ensures.rows ∙ ap (λ r. record { rows = t.register.rows ++ r ∷ []; room = t.register.room }) c.of-row.ensures in

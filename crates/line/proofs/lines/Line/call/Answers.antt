@@ -23,18 +23,18 @@ returns-in-Some g c =
 pub returns-in-Some-examine : goal.returns-in-Some-examine
 returns-in-Some-examine g c =
     let s = state g.I.BlockInstrument.phases c.args.self.now in
-    let refused = refused_own s c.args.call c.in-Some-examine.refusal (sym c.unfit.ensures ∙ c.in-default.is) (sym c.examine.ensures ∙ c.in-Some-examine.is) in
+    let refused = refused_own s c.args.call c.in-Some-examine.refusal (sym c.unfit.ensures ∙ c.in_default.is) (sym c.examine.ensures ∙ c.in-Some-examine.is) in
     record {
       answered = sym (ap (λ o. answered o (slip_of c.args.call)) refused);
       followed = sym (after_refused s c.args.call c.in-Some-examine.refusal refused);
     }
 
-pub returns-in-err-ask : goal.returns-in-err-ask
-returns-in-err-ask g c =
+pub returns-in_err-ask : goal.returns-in_err-ask
+returns-in_err-ask g c =
     let s = state g.I.BlockInstrument.phases c.args.self.now in
-    let p = err_from_is_err_and c.from-residual.result c.from-residual.ensures.1 in
-    let vain = told_err _ _ (sym c.ask.ensures.answered ∙ c.in-err-ask.was) in
-    let refused = left_to_ask s c.args.call (sym c.unfit.ensures ∙ c.in-default.is) (sym c.examine.ensures ∙ c.in-default-examine.is) ∙ vain in
+    let p = err_from_is_err_and c.from_residual.result c.from_residual.ensures.1 in
+    let vain = told_err _ _ (sym c.ask.ensures.answered ∙ c.in_err-ask.was) in
+    let refused = left_to_ask s c.args.call (sym c.unfit.ensures ∙ c.in_default.is) (sym c.examine.ensures ∙ c.in_default-examine.is) ∙ vain in
     record {
       answered = p.1 ∙ ap Err p.2 ∙ sym (ap (λ o. answered o (slip_of c.args.call)) refused);
       followed =
@@ -48,22 +48,22 @@ returns g c =
     let s = state g.I.BlockInstrument.phases c.args.self.now in
     let call = c.args.call in
     let asked = c.ask.ensures.followed in
-    let way = c.direction-of-way.ensures in
-    let first = c.apply-to-section.ensures in
-    let then = c.apply-to-trains.ensures in
+    let way = c.direction_of-way.ensures in
+    let first = c.apply_to_section.ensures in
+    let then = c.apply_to_trains.ensures in
     let accepted : refusal s call ≡ None =
-    left_to_ask s call (sym c.unfit.ensures ∙ c.in-default.is) (sym c.examine.ensures ∙ c.in-default-examine.is)
-    ∙ told_ok _ (sym c.ask.ensures.answered ∙ c.in-ok-ask.was)
+    left_to_ask s call (sym c.unfit.ensures ∙ c.in_default.is) (sym c.examine.ensures ∙ c.in_default-examine.is)
+    ∙ told_ok _ (sym c.ask.ensures.answered ∙ c.in_ok-ask.was)
     in
     let condition = then.condition ∙ first.condition ∙ ap (λ (x : LineState). x.condition) asked in
     let phases = ap g.I.BlockInstrument.phases (then.instrument ∙ first.instrument) ∙ ap (λ (x : LineState). x.phases) asked in
     let sections =
-    then.sections ∙ first.sections ∙ ap (λ (x : LineState). sections_effect (section_of call) (section_effect call c.direction-of-way.result) x.sections) asked
+    then.sections ∙ first.sections ∙ ap (λ (x : LineState). sections_effect (section_of call) (section_effect call c.direction_of-way.result) x.sections) asked
     ∙ ap (λ o. sections_effect (section_of call) (section_effect call o) s.sections) way
     in
     let trains =
-    then.trains ∙ ap (λ x. trains_effect call c.direction-of-way.result x.records) first.trains
-    ∙ ap (λ (x : LineState). trains_effect call c.direction-of-way.result x.trains) asked ∙ ap (λ o. trains_effect call o s.trains) way
+    then.trains ∙ ap (λ x. trains_effect call c.direction_of-way.result x.records) first.trains
+    ∙ ap (λ (x : LineState). trains_effect call c.direction_of-way.result x.trains) asked ∙ ap (λ o. trains_effect call o s.trains) way
     in
     record {
       answered = ap Ok c.of.ensures ∙ sym (ap (λ o. answered o (slip_of call)) accepted);

@@ -7,12 +7,12 @@ use Rattle.line.proofs.lines.making.is_at_rest.Goals as goal
 pub loop-section-preserved : goal.loop-section-preserved
 loop-section-preserved g c =
     let ps = g.I.BlockInstrument.phases c.args.instrument.now in
-    sym (rest_on ps c.loop-section.section (omega arith) (sym (ap told_rest c.phase.ensures) ∙ sym c.if-not-is-rest.ensures)) ∙ c.loop-section.invariant
+    sym (rest_on ps c.loop-section.section (omega arith) (sym (ap told_rest c.phase.ensures) ∙ sym c.if-not-is_rest.ensures)) ∙ c.loop-section.invariant
 
-pub returns-then-not-is-rest : goal.returns-then-not-is-rest
-returns-then-not-is-rest g c =
+pub returns-then-not-is_rest : goal.returns-then-not-is_rest
+returns-then-not-is_rest g c =
     let ps = g.I.BlockInstrument.phases c.args.instrument.now in
-    sym (rest_broken ps c.loop-section.section (omega arith) (sym (ap told_rest c.phase.ensures) ∙ sym c.if-not-is-rest.ensures)) ∙ c.loop-section.invariant
+    sym (rest_broken ps c.loop-section.section (omega arith) (sym (ap told_rest c.phase.ensures) ∙ sym c.if-not-is_rest.ensures)) ∙ c.loop-section.invariant
 
 pub returns : goal.returns
 returns g c =

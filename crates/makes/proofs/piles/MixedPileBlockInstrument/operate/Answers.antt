@@ -16,10 +16,10 @@ returns-then-section-below g c =
       followed = ap (λ xs. joined xs qs) c.operate.ensures.followed ∙ sym (first_after ps qs c.args.section few (omega arith) c.args.action c.args.direction);
     }
 
-pub returns-then-section-ge-MOST-SECTIONS : goal.returns-then-section-ge-MOST-SECTIONS
-returns-then-section-ge-MOST-SECTIONS g c =
+pub returns-then-section-ge-MOST_SECTIONS : goal.returns-then-section-ge-MOST_SECTIONS
+returns-then-section-ge-MOST_SECTIONS g c =
     let s = c.args.self.now in
-    let past = past_pile (g.P.BlockInstrument.phases s.first) (g.Q.BlockInstrument.phases s.second) c.args.section c.if-section-ge-MOST-SECTIONS.true in
+    let past = past_pile (g.P.BlockInstrument.phases s.first) (g.Q.BlockInstrument.phases s.second) c.args.section c.if-section-ge-MOST_SECTIONS.true in
     record {
       answered = sym (answer_past _ c.args.section past c.args.action c.args.direction);
       followed = sym (after_past _ c.args.section past c.args.action c.args.direction);
@@ -33,6 +33,6 @@ returns g c =
     let n = c.count-below.result in
     let long = sym c.count-below.ensures in
     record {
-      answered = c.retold.ensures ∙ ap (retold c.args.section) c.operate-2.ensures.answered ∙ sym (second_answer ps qs n c.args.section long c.if-section-below.false c.if-section-ge-MOST-SECTIONS.false c.args.action c.args.direction);
-      followed = ap (joined ps) c.operate-2.ensures.followed ∙ sym (second_after ps qs n c.args.section long c.if-section-below.false c.if-section-ge-MOST-SECTIONS.false c.args.action c.args.direction);
+      answered = c.retold.ensures ∙ ap (retold c.args.section) c.operate-2.ensures.answered ∙ sym (second_answer ps qs n c.args.section long c.if-section-below.false c.if-section-ge-MOST_SECTIONS.false c.args.action c.args.direction);
+      followed = ap (joined ps) c.operate-2.ensures.followed ∙ sym (second_after ps qs n c.args.section long c.if-section-below.false c.if-section-ge-MOST_SECTIONS.false c.args.action c.args.direction);
     }

@@ -7,8 +7,8 @@ use Rattle.makes.proofs.telephone.LetterRecordSectionRecord.work.Goals as goal
 pub returns : goal.returns
 returns c =
     let found = understood c.args.self.now in
-    let accepted : worked c.args.action c.args.section c.args.direction found ≡ Ok c.in-ok-work.field-0 =
-    ap (worked c.args.action c.args.section c.args.direction) (sym c.read.ensures) ∙ sym c.work.ensures ∙ c.in-ok-work.was
+    let accepted : worked c.args.action c.args.section c.args.direction found ≡ Ok c.in_ok-work.field-0 =
+    ap (worked c.args.action c.args.section c.args.direction) (sym c.read.ensures) ∙ sym c.work.ensures ∙ c.in_ok-work.was
     in
     record {
       answered = sym (ap answer_of accepted);

@@ -19,33 +19,33 @@ taken_out : (r : Option (ℕ × ℕ)) → mapped-option numbers (mapped-option b
 taken_out None = refl
 taken_out (Some v) = refl
 
-pub returns-in-err-take-2 : goal.returns-in-err-take-2
-returns-in-err-take-2 c =
+pub returns-in_err-take-2 : goal.returns-in_err-take-2
+returns-in_err-take-2 c =
     let to = c.take-2.new.self.at in
     let there = both (exactly space) two_numbers in
     let inner = stops (exactly space) two_numbers (drop c.take.new.self.at c.take.new.self.bytes.now) c.take.new.self.at to
-    (record { value = c.in-err-take-2.ensures.value; place = c.take-2.ensures.stands }) in
+    (record { value = c.in_err-take-2.ensures.value; place = c.take-2.ensures.stands }) in
     let all = goes (exactly heading_letter) there c.args.self.now.bytes.now c.take.new.self.bytes.now (ap (λ b. b.now) c.take.ensures.kept)
     c.args.self.now.at c.take.new.self.at to tt None
-    (record { value = c.in-ok-take.ensures.value; place = c.take.ensures.stands }) inner in
+    (record { value = c.in_ok-take.ensures.value; place = c.take.ensures.stands }) inner in
     let out = mapping numbers (both (exactly heading_letter) there (drop c.args.self.now.at c.args.self.now.bytes.now)) c.args.self.now.at to None all in
-    record { value = c.from-residual-in-err-take-2.ensures ∙ out.value; stands = out.place; kept = c.take-2.ensures.kept ∙ c.take.ensures.kept }
+    record { value = c.from_residual-in_err-take-2.ensures ∙ out.value; stands = out.place; kept = c.take-2.ensures.kept ∙ c.take.ensures.kept }
 
 pub returns : goal.returns
 returns c =
-    let to = c.two-numbers.new.self.at in
-    let r = c.two-numbers.result in
+    let to = c.two_numbers.new.self.at in
+    let r = c.two_numbers.result in
     let there = both (exactly space) two_numbers in
     let inner = goes (exactly space) two_numbers c.take.new.self.bytes.now c.take-2.new.self.bytes.now (ap (λ b. b.now) c.take-2.ensures.kept)
     c.take.new.self.at c.take-2.new.self.at to tt r
-    (record { value = c.in-ok-take-2.ensures.value; place = c.take-2.ensures.stands })
-    (record { value = c.two-numbers.ensures.value; place = c.two-numbers.ensures.stands }) in
+    (record { value = c.in_ok-take-2.ensures.value; place = c.take-2.ensures.stands })
+    (record { value = c.two_numbers.ensures.value; place = c.two_numbers.ensures.stands }) in
     let all = goes (exactly heading_letter) there c.args.self.now.bytes.now c.take.new.self.bytes.now (ap (λ b. b.now) c.take.ensures.kept)
     c.args.self.now.at c.take.new.self.at to tt (mapped-option beside r)
-    (record { value = c.in-ok-take.ensures.value; place = c.take.ensures.stands }) inner in
+    (record { value = c.in_ok-take.ensures.value; place = c.take.ensures.stands }) inner in
     let out = mapping numbers (both (exactly heading_letter) there (drop c.args.self.now.at c.args.self.now.bytes.now)) c.args.self.now.at to (mapped-option beside (mapped-option beside r)) all in
     record {
       value = sym (taken_out r) ∙ out.value;
       stands = out.place;
-      kept = c.two-numbers.ensures.kept ∙ c.take-2.ensures.kept ∙ c.take.ensures.kept;
+      kept = c.two_numbers.ensures.kept ∙ c.take-2.ensures.kept ∙ c.take.ensures.kept;
     }

@@ -8,5 +8,5 @@ returns-in-Some c =
     ap (set c.args.self.now.records c.in-Some.free) c.hold.ensures
     ∙ sym (put_found is_free (taken c.args.number c.args.place) c.in-Some.free c.args.self.now.records (sym c.first.ensures.value ∙ c.in-Some.is))
 
-pub returns-in-default : goal.returns-in-default
-returns-in-default c = sym (put_none is_free (taken c.args.number c.args.place) 0 c.args.self.now.records (sym c.first.ensures.value ∙ c.in-default.is))
+pub returns-in_default : goal.returns-in_default
+returns-in_default c = sym (put_none is_free (taken c.args.number c.args.place) 0 c.args.self.now.records (sym c.first.ensures.value ∙ c.in_default.is))

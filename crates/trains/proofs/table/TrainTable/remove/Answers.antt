@@ -8,5 +8,5 @@ returns-in-Some c =
     ap (set c.args.self.now.records c.in-Some.i) c.clear.ensures
     ∙ sym (put_found (bears c.args.number) free c.in-Some.i c.args.self.now.records (sym c.first.ensures.value ∙ c.in-Some.is))
 
-pub returns-in-default : goal.returns-in-default
-returns-in-default c = sym (put_none (bears c.args.number) free 0 c.args.self.now.records (sym c.first.ensures.value ∙ c.in-default.is))
+pub returns-in_default : goal.returns-in_default
+returns-in_default c = sym (put_none (bears c.args.number) free 0 c.args.self.now.records (sym c.first.ensures.value ∙ c.in_default.is))
