@@ -1,6 +1,6 @@
 # `make run` plays an example sheet; `make test` is the gate; `make panel` builds the panel, a C program; `make bench` measures.
 
-# Two rt at one time would work in one target/.
+# Two rt at one time would work in one folder.
 .NOTPARALLEL:
 
 .PHONY: run test check sheets-test panel panel-test native-test bench
@@ -13,7 +13,7 @@ test:
 
 # Faster than the gate, and no verdict: what has not changed is not proved again.
 check:
-	rt check
+	rt all check
 
 # Every sheet that is kept has the answer that is kept beside it.
 sheets-test: target/bin/play
@@ -28,9 +28,7 @@ PANEL_CC := gcc
 PANEL_CFLAGS := -std=c11 -Wall -Wextra -Werror -pedantic
 PANEL_SANITIZE := -g -fsanitize=address,undefined -fno-sanitize-recover=all
 PANEL_LIB := target/staticlib/libpanel.a
-# What rt says to link beside the archive; it lies in the folder above the guide that rt doc names.
-PANEL_KIT_LIB = $(patsubst %/docs/START-HERE.md,%/lib/librattle_c.a,$(shell rt doc))
-PANEL_CRATES := crates.txt $(shell find crates -type f)
+PANEL_CRATES := crates.txt $(shell find crates -type f -not -path '*/out/*')
 
 panel: target/panel/panel
 
@@ -47,27 +45,30 @@ panel-test: target/panel/panel_test target/panel/panel target/bin/play
 
 target/panel/panel: panel/panel.c panel/gomtaiwu_panel.h $(PANEL_LIB)
 	mkdir -p $(@D)
-	$(PANEL_CC) $(PANEL_CFLAGS) -O2 -o $@ $< $(PANEL_LIB) $(PANEL_KIT_LIB)
+	$(PANEL_CC) $(PANEL_CFLAGS) -O2 -o $@ $< $(PANEL_LIB)
 
 target/panel/panel_test: $(wildcard panel/test/*.[ch]) panel/gomtaiwu_panel.h $(PANEL_LIB)
 	mkdir -p $(@D)
-	$(PANEL_CC) $(PANEL_CFLAGS) $(PANEL_SANITIZE) -Ipanel -o $@ $(filter %.c,$^) $(PANEL_LIB) $(PANEL_KIT_LIB)
+	$(PANEL_CC) $(PANEL_CFLAGS) $(PANEL_SANITIZE) -Ipanel -o $@ $(filter %.c,$^) $(PANEL_LIB)
 
-# rt may leave as it is what has not changed, hence the touch; -c, so that a missing file stays missing.
+# What rt builds lies in the crate's folder out/.
 $(PANEL_LIB): $(PANEL_CRATES)
-	rt staticlib panel
-	touch -c $@
+	cd crates/panel && rt lib
+	mkdir -p $(@D)
+	cp crates/panel/out/libpanel.a $@
 
+# rt builds a program where it runs it.
 target/bin/play: $(PANEL_CRATES)
-	rt check play
-	touch -c $@
+	cd crates/play && rt run < stdin > /dev/null
+	mkdir -p $(@D)
+	cp crates/play/out/play $@
 
 # THE SECOND OPINION, a plain implementation that knows the rules and not the library: native-test compares the two on sheets of
 # every kind, and bench measures them side by side.
 
 NATIVE_SEED ?= 1
 NATIVE_LINES ?= 200000
-NATIVE_BUILD = PANEL_A=$(abspath $(PANEL_LIB)) RATTLE_C=$(PANEL_KIT_LIB) CARGO_TARGET_DIR=$(abspath target/native) \
+NATIVE_BUILD = PANEL_A=$(abspath $(PANEL_LIB)) CARGO_TARGET_DIR=$(abspath target/native) \
 	cargo build --quiet --release --locked --offline --manifest-path native/Cargo.toml
 
 native-test: $(PANEL_LIB)

@@ -66,39 +66,38 @@ def bugs_of(crate):
     return [Bug(block) for block in blocks]
 
 
-def rt(*words):
-    done = subprocess.run(["rt", *words], cwd=COPY, capture_output=True, text=True, check=False)
+def rt(folder, *words):
+    done = subprocess.run(["rt", *words], cwd=folder, capture_output=True, text=True, check=False)
     return done.returncode == 0, done.stdout + done.stderr
 
 
-def restore(crate):
-    shutil.rmtree(COPY / "crates" / crate, ignore_errors=True)
-    shutil.copytree(ROOT / "crates" / crate, COPY / "crates" / crate)
-
-
-def no_rt_folder(folder, names):
-    return {"planted", "native", "panel"} if Path(folder) == ROOT / "target" else set()
+def copy_sources(crate):
+    """Copies the crate over what the copy has of it, but for the folder that rt made."""
+    copied = COPY / "crates" / crate
+    for old in copied.glob("*"):
+        if old.is_dir() and old.name != "out":
+            shutil.rmtree(old)
+    shutil.copytree(
+        ROOT / "crates" / crate, copied, ignore=shutil.ignore_patterns("out"), dirs_exist_ok=True
+    )
 
 
 def make_copy():
-    shutil.rmtree(COPY / "crates", ignore_errors=True)
-    shutil.copytree(ROOT / "crates", COPY / "crates")
+    for crate in sorted(path.name for path in (ROOT / "crates").iterdir()):
+        copy_sources(crate)
     shutil.copy(ROOT / "crates.txt", COPY)
-    if not (COPY / "target").exists():
-        # What is proved already need not be proved again.
-        shutil.copytree(ROOT / "target", COPY / "target", ignore=no_rt_folder)
-    good, said = rt("check")
+    good, said = rt(COPY, "all", "check")
     if not good:
         sys.exit(f"the copy is not proved as it stands:\n{said}")
 
 
 def fate(crate, bug):
     bug.plant(COPY / "crates" / crate)
-    good, said = rt("dev", crate)
+    good, said = rt(COPY / "crates" / crate, "check")
     if not good:
         # The prover names each function that it looked at; the compiler comes before it.
         return REFUSED if f"fn {crate}::" in said else NOT_BUILT
-    return SURVIVED if rt("check")[0] else CAUGHT
+    return SURVIVED if rt(COPY, "all", "test")[0] else CAUGHT
 
 
 def try_crate(crate):
@@ -106,7 +105,7 @@ def try_crate(crate):
     for bug in bugs_of(crate):
         began = time.monotonic()
         outcome = fate(crate, bug)
-        restore(crate)
+        copy_sources(crate)
         seen[outcome] += 1
         print(f"{crate}: {bug.name}: {outcome} ({time.monotonic() - began:.0f} s)", flush=True)
     return seen
