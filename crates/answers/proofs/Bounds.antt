@@ -1,12 +1,12 @@
 -- How long the lines of an answer can be.
-use Rattle.std.proofs.Common.{◌≡◌, ℕ, suc, ◌+◌, ◌*◌, ◌^◌, ◌<◌, ◌≤◌, Bool, true, false, cond, List, [], ◌∷◌, ◌++◌, length, Ok, Err, decimal, unwrap_or, sym, refl, ap, ◌∙◌, subst, arith, length-append}
+use Rattle.std.proofs.Common.{ℕ, ◌+◌, ◌^◌, ◌<◌, ◌≤◌, Bool, true, false, cond, List, [], ◌∷◌, ◌++◌, length, unwrap_or, ap, ◌∙◌, arith, length-append}
 use Rattle.std.proofs.lemmas.Fmt.{length-decimal-le}
 use Rattle.block.specs.Meaning.{phase_at}
 use Rattle.block.specs.Order.{phase_code}
 use Rattle.block.specs.declared.order.Direction.TheVariants.{Up, Down}
 use Rattle.block.specs.declared.order.Phase.{Phase}
 use Rattle.block.specs.declared.order.Phase.TheVariants.{Rest, Given, Opened, Returned, Cleared}
-use Rattle.reading.specs.Written.{space, line_feed}
+use Rattle.reading.specs.Written.{line_feed}
 use Rattle.reading.specs.declared.headings.Heading.{Heading}
 use Rattle.rules.specs.State.{LineState}
 use Rattle.trains.specs.Trains.{number_inside}

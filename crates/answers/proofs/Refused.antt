@@ -1,7 +1,7 @@
 -- The answer to a refused line: its values are few and small, so it takes at most twenty bytes.
-use Rattle.std.proofs.Common.{◌≡◌, ℕ, suc, ◌+◌, ◌*◌, ◌^◌, ◌<◌, ◌≤◌, Bool, true, false, cond, not, ◌||◌, ltb, leb, List, [], ◌∷◌, ◌++◌, length, take, Some, None, Ok, Err, decimal, Option, Result, sym, refl, ap, ◌∙◌, subst, arith, length-append, length-take}
+use Rattle.std.proofs.Common.{◌≡◌, ℕ, ◌<◌, ◌≤◌, Bool, true, false, cond, not, ltb, List, [], ◌∷◌, ◌++◌, length, take, Some, None, Ok, Err, decimal, Option, Result, sym, refl, ap, ◌∙◌, subst, arith, length-append, length-take}
 use Rattle.std.proofs.lemmas.Fmt.{length-decimal-le}
-use Rattle.block.specs.Meaning.{phase_at, worked, outcome, answer, answer_of}
+use Rattle.block.specs.Meaning.{phase_at, answer, answer_of}
 use Rattle.block.specs.Order.{phase_code, same_phase, leaves, brings, towards}
 use Rattle.block.specs.Refusals.{number, section_value, refusal}
 use Rattle.block.specs.declared.order.Action.{Action}
@@ -10,9 +10,9 @@ use Rattle.block.specs.declared.order.Direction.{Direction}
 use Rattle.block.specs.declared.order.Phase.{Phase}
 use Rattle.block.specs.declared.refusals.InstrumentRefusal.{InstrumentRefusal}
 use Rattle.block.specs.declared.refusals.InstrumentRefusal.TheVariants.{NoSection, NotAtRest, OtherDirection, WrongPhase}
-use Rattle.reading.specs.Law.{Begins, Unreadable as UnreadableAt}
+use Rattle.reading.specs.Law.{Unreadable as UnreadableAt}
 use Rattle.reading.specs.Written.{Short, space, line_feed, direction_letter, Fields, One, Two, Sided, fields, fields_text, Fit, written, Writable}
-use Rattle.rules.specs.Calls.{section_of, direction_of, post_of, action_of}
+use Rattle.rules.specs.Calls.{section_of, direction_of, action_of}
 use Rattle.rules.specs.Numbers.{line_number}
 use Rattle.rules.specs.Checks as check
 use Rattle.rules.specs.Checks.{refused_if, first_refusal, unfit, going, elsewhere, own_checks, asked, checks}

@@ -1,5 +1,5 @@
 -- The texts, opened.
-use Rattle.std.proofs.Common.{◌≡◌, ℕ, suc, ◌+◌, ◌<◌, cond, List, [], ◌∷◌, ◌++◌, length, None, Ok, Err, decimal, unwrap_or, sym, refl, ap, ◌∙◌, arith, lt-ltb}
+use Rattle.std.proofs.Common.{◌≡◌, ℕ, suc, ◌+◌, ◌<◌, cond, List, [], ◌∷◌, ◌++◌, length, None, Ok, Err, decimal, unwrap_or, refl, ap, arith, lt-ltb}
 use Rattle.block.specs.Meaning.{phase_at, phase_answer}
 use Rattle.block.specs.Order.{phase_code}
 use Rattle.block.specs.declared.order.Phase.{Phase}

@@ -11,7 +11,6 @@ use Rattle.turn.specs.Rows.{tally}
 use Rattle.turn.specs.declared.rows.RegisterRow.{RegisterRow}
 use Rattle.turn.specs.declared.rows.Kind.TheVariants.{Giving, Leaving, Unsealing}
 use Rattle.answers.specs.Numbers.{line_refusal_number, refusal_values, sheet_number}
-use Rattle.answers.specs.declared.refusals.SheetLineRefusal.{SheetLineRefusal}
 use Rattle.answers.specs.declared.refusals.SheetRefusal.{SheetRefusal}
 use Rattle.answers.specs.declared.refusals.SheetRefusal.TheVariants.{TooLong, BadHeading, ShortBuffer, Line}
 

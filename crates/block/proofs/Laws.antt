@@ -1,5 +1,5 @@
 -- The laws of a block instrument's meaning, by which callers and makes use it.
-use Rattle.std.proofs.Common.{◌≡◌, ℕ, ◌<◌, ◌≤◌, Bool, true, false, cond, ltb, List, length, get_or, set, Some, None, Ok, Err, Result, sym, refl, ap, ◌∙◌, length-set, le-ltb, lt-ltb}
+use Rattle.std.proofs.Common.{◌≡◌, ℕ, ◌<◌, ◌≤◌, Bool, true, false, cond, List, length, set, Some, None, Ok, Err, Result, sym, refl, ap, ◌∙◌, le-ltb, lt-ltb}
 use lib.Seq.{set-get_or}
 use Rattle.block.specs.Order.{same_phase, towards, leaves, brings}
 use Rattle.block.specs.Refusals.{told_of, retold, out_of_order, refusal}

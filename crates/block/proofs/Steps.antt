@@ -1,8 +1,8 @@
 -- What holds of every action on every instrument.
-use Rattle.std.proofs.Common.{◌≡◌, ℕ, ◌<◌, ◌≤◌, Bool, true, false, cond, eqb, List, length, get_or, set, Some, Ok, Err, Result, sym, refl, ap, ◌∙◌, ⊎_elim, arith, length-set, get_or-set_other, get_or-set_same, eqb-true}
+use Rattle.std.proofs.Common.{◌≡◌, ℕ, ◌<◌, ◌≤◌, Bool, true, false, cond, eqb, List, length, set, Ok, Err, Result, sym, refl, ap, ◌∙◌, ⊎_elim, arith, length-set, get_or-set_other, get_or-set_same, eqb-true}
 use lib.Seq.{set-get_or}
 use Rattle.std.proofs.lemmas.Bool.{cases_lt}
-use Rattle.block.specs.Meaning.{worked, answer_of, phase_of, phase_after, phase_at, answer, after}
+use Rattle.block.specs.Meaning.{worked, answer_of, phase_of, phase_after, phase_at, answer}
 use Rattle.block.specs.Order.{phase_code, same_phase, leaves, brings}
 use Rattle.block.specs.Refusals.{refusal}
 use Rattle.block.specs.Steps.{Step}
@@ -12,7 +12,6 @@ use Rattle.block.specs.declared.order.Direction.TheVariants.{Up, Down}
 use Rattle.block.specs.declared.order.Phase.{Phase}
 use Rattle.block.specs.declared.order.Phase.TheVariants.{Rest, Given, Opened, Returned, Cleared}
 use Rattle.block.specs.declared.refusals.InstrumentRefusal.{InstrumentRefusal}
-use Rattle.block.specs.declared.refusals.InstrumentRefusal.TheVariants.{NoSection}
 use Rattle.block.proofs.Laws.{answer_there, after_there, answer_past, after_past}
 
 -- the phase of a code

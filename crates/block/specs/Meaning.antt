@@ -1,5 +1,5 @@
 -- The meaning of a block instrument: what it answers, and which phases it then has, from the list of its sections' phases.
-use Rattle.std.specs.Prelude.{◌≡◌, ℕ, ◌<◌, Bool, true, false, cond, List, length, Some, None, Ok, Err, Result, nat_lt, slice_index_or, slice_set}
+use Rattle.std.specs.Prelude.{ℕ, cond, List, length, Some, None, Ok, Err, Result, nat_lt, slice_index_or, slice_set}
 use Rattle.block.specs.declared.order.Action.{Action}
 use Rattle.block.specs.declared.order.Direction.{Direction}
 use Rattle.block.specs.declared.order.Phase.{Phase}

@@ -1,5 +1,5 @@
 -- The order of working: the phases of a section, their codes, and from which phase to which each action leads.
-use Rattle.std.specs.Prelude.{ℕ, Bool, true, false, ◌==◌}
+use Rattle.std.specs.Prelude.{ℕ, Bool, false, ◌==◌}
 use Rattle.block.specs.declared.order.Action.{Action}
 use Rattle.block.specs.declared.order.Action.TheVariants.{Give, Open, Return, Clear, Restore}
 use Rattle.block.specs.declared.order.Direction.{Direction}

@@ -1,5 +1,5 @@
 -- A block instrument's refusals: the number and the values of each, and when each is given.
-use Rattle.std.specs.Prelude.{ℕ, Bool, cond, Some, None, Ok, Err, Option, Result}
+use Rattle.std.specs.Prelude.{ℕ, cond, Some, None, Ok, Err, Option, Result}
 use Rattle.block.specs.declared.order.Action.{Action}
 use Rattle.block.specs.declared.order.Action.TheVariants.{Give, Open, Return, Clear, Restore}
 use Rattle.block.specs.declared.order.Direction.{Direction}

@@ -1,7 +1,6 @@
 -- Whether an instrument is at rest, section by section.
-use Rattle.std.proofs.Common.{◌≡◌, ℕ, suc, ◌+◌, ◌<◌, Bool, true, false, ◌&&◌, List, ◌∷◌, length, drop, sym, ap, ◌∙◌, add-one, drop-cons}
-use Rattle.block.specs.Meaning.{phase_at, phase_answer}
-use Rattle.block.specs.Order.{same_phase}
+use Rattle.std.proofs.Common.{◌≡◌, ℕ, suc, ◌+◌, ◌<◌, true, false, ◌&&◌, List, length, drop, sym, ap, ◌∙◌, add-one, drop-cons}
+use Rattle.block.specs.Meaning.{phase_answer}
 use Rattle.block.specs.declared.order.Phase.{Phase}
 use Rattle.block.specs.declared.order.Phase.TheVariants.{Rest}
 use Rattle.block.proofs.Laws.{phase_there}

@@ -1,5 +1,5 @@
 -- What a joined instrument answers, from what its two parts answer.
-use Rattle.std.proofs.Common.{◌≡◌, ℕ, ◌+◌, ◌-◌, ◌<◌, ◌≤◌, min, List, ◌++◌, length, get_or, take, set, Some, None, Ok, Err, sym, ap, ◌∙◌, ⊎_elim, arith, length-append, length-take, get_or-take}
+use Rattle.std.proofs.Common.{◌≡◌, ℕ, ◌+◌, ◌-◌, ◌<◌, ◌≤◌, min, List, ◌++◌, length, take, set, Ok, sym, ap, ◌∙◌, ⊎_elim, arith, length-append, length-take, get_or-take}
 use lib.Seq.{take-set-lt, set-append_left}
 use Rattle.std.proofs.lemmas.List.{get_or_append_left, get_or-append_right, set-append_right}
 use Rattle.std.proofs.lemmas.Bool.{cases_lt}

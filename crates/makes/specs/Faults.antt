@@ -1,5 +1,5 @@
 -- The fault reader: which picture a pane byte is nearest to.
-use Rattle.std.specs.Prelude.{ℕ, Bool, true, false, cond, ◌&&◌, ◌||◌, List, [], ◌∷◌, map, ◌==◌, bit_xor, count_ones, nat_lt, slice_index}
+use Rattle.std.specs.Prelude.{ℕ, Bool, true, cond, ◌&&◌, ◌||◌, List, [], ◌∷◌, map, ◌==◌, bit_xor, count_ones, nat_lt, slice_index}
 use Rattle.std.specs.List.{range_with_len}
 use Rattle.makes.specs.Panes.{panes}
 use Rattle.block.specs.declared.order.Direction.TheVariants.{Up, Down}

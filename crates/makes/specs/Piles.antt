@@ -1,5 +1,5 @@
 -- Two instruments joined into one: the first one's sections, then the second one's, sixteen at the most.
-use Rattle.std.specs.Prelude.{ℕ, ◌≤◌, List, ◌++◌, length, take}
+use Rattle.std.specs.Prelude.{◌≤◌, List, ◌++◌, length, take}
 use Rattle.std.proofs.Common.{arith, length-take}
 use Rattle.block.specs.declared.order.Phase.{Phase}
 

@@ -1,5 +1,5 @@
 -- An instrument of one section: what is answered there.
-use Rattle.std.proofs.Common.{◌≡◌, ℕ, ◌≤◌, [], ◌∷◌, set, Ok, Result, sym, refl, ap, ◌∙◌, arith}
+use Rattle.std.proofs.Common.{◌≡◌, ℕ, ◌≤◌, [], ◌∷◌, set, Ok, Result, sym, ap, ◌∙◌, arith}
 use Rattle.block.specs.Meaning.{worked, answer_of, phase_of, phase_after, phase_at, phase_answer, answer, after}
 use Rattle.block.specs.declared.order.Action.{Action}
 use Rattle.block.specs.declared.order.Direction.{Direction}

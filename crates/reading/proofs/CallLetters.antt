@@ -1,5 +1,5 @@
 -- A call is read by its letter: what stands after the letter is read as its form asks.
-use Rattle.std.proofs.Common.{◌≡◌, ℕ, ◌+◌, Bool, true, false, cond, eqb, List, [], ◌∷◌, Some, None, Option, sym, refl, ap, ◌∙◌, subst, arith}
+use Rattle.std.proofs.Common.{◌≡◌, ℕ, Bool, true, false, cond, eqb, List, [], ◌∷◌, Some, Option, sym, refl, ap, ◌∙◌, subst, arith}
 use Rattle.block.specs.declared.order.Direction.{Direction}
 use Rattle.rules.specs.declared.calls.Call.{Call}
 use Rattle.std.specs.Option.{option_map as mapped-option}

@@ -1,14 +1,14 @@
 -- The reading of a whole line agrees with what is written of calls.
-use Rattle.std.proofs.Common.{◌≡◌, ℕ, zero, suc, ◌+◌, ◌<◌, ◌≤◌, Bool, true, false, cond, eqb, ◌⊎◌, List, [], ◌∷◌, ◌++◌, length, take, drop, Some, None, decimal, Option, sym, refl, ap, ◌∙◌, subst, inl, inr, ⊎_elim, append_assoc, append-nil, arith, length-append, eq-eqb, ne_eqb}
+use Rattle.std.proofs.Common.{◌≡◌, ℕ, suc, ◌+◌, ◌<◌, cond, List, [], ◌∷◌, ◌++◌, length, take, drop, Some, None, decimal, Option, sym, refl, ap, ◌∙◌, subst, ⊎_elim, append_assoc, arith, eq-eqb, ne_eqb}
 use Rattle.std.proofs.lemmas.Bool.{cases_eq}
 use Rattle.block.specs.declared.order.Direction.{Direction}
-use Rattle.block.specs.declared.order.Direction.TheVariants.{Up, Down}
+use Rattle.block.specs.declared.order.Direction.TheVariants.{Up}
 use Rattle.rules.specs.declared.calls.Call.{Call}
 use Rattle.rules.specs.declared.calls.Call.TheVariants.{PlaceTrain, WithdrawTrain, GiveRelease, OpenSignal, CloseSignal, EnterSection, ReturnRelease, OpenHome, ShutHome, ReachPedal, LeaveSection, ClearSection, UnsealSection, RestoreSection}
 use Rattle.reading.specs.Outcomes.{Outcome, Got, Stuck, past, mapped, continued, both}
-use Rattle.reading.specs.Written.{space, line_feed, Short, direction_letter, letter, Fields, One, Two, Sided, fields, fields_text, Fit, written, Writable}
+use Rattle.reading.specs.Written.{space, line_feed, Short, direction_letter, letter, One, Two, Sided, fields, fields_text, Fit, written, Writable}
 use Rattle.reading.specs.Grammar.{exactly, number, direction, Form, OfOne, OfTwo, OfSided, forms, form_in, form_fields, form_line, call_line}
-use Rattle.reading.proofs.Lawful.{Lawful, Read, Ends, Starts, got_same, stuck_same, stuck_got, got_stuck, both_lawful}
+use Rattle.reading.proofs.Lawful.{Lawful, Read, Ends, got_same, stuck_same, stuck_got, got_stuck, both_lawful}
 use Rattle.reading.proofs.Fields.{nothing_taken, exactly_lawful, direction_lawful}
 use Rattle.reading.proofs.Figures.{number_lawful}
 

@@ -1,7 +1,7 @@
 -- How the bytes of a sheet are cut into lines.
-use Rattle.std.proofs.Common.{◌≡◌, ℕ, zero, suc, ◌+◌, ◌<◌, ◌≤◌, Bool, true, false, cond, eqb, ◌⊎◌, List, [], ◌∷◌, ◌++◌, length, get_or, take, drop, sym, refl, ap, ◌∙◌, subst, inl, inr, ⊎_elim, append_assoc, append-nil, arith, eq-eqb, ne_eqb}
+use Rattle.std.proofs.Common.{◌≡◌, ℕ, zero, suc, ◌<◌, ◌≤◌, eqb, ◌⊎◌, List, [], ◌∷◌, ◌++◌, length, get_or, take, drop, sym, refl, ap, ◌∙◌, subst, inl, inr, append-nil, arith, eq-eqb, ne_eqb}
 use Rattle.std.proofs.lemmas.Bool.{cases_eq, cond-true, cond-false}
-use Rattle.reading.specs.Lines.{onto, lines, line_length, joined, Feedless, Ended, Unfinished, Cut, LinesLaw}
+use Rattle.reading.specs.Lines.{onto, lines, line_length, joined, Feedless, Ended, Cut, LinesLaw}
 use Rattle.reading.specs.Written.{line_feed}
 
 at_feed : (x : ℕ) (xs : List ℕ) → x ≡ line_feed → lines (x ∷ xs) ≡ (x ∷ []) ∷ lines xs

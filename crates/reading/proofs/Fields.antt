@@ -1,17 +1,12 @@
 -- The readings of single fields agree with what is written.
-use Rattle.std.proofs.Common.{◌≡◌, ℕ, zero, suc, ◌+◌, ◌-◌, ◌*◌, ◌^◌, ◌<◌, ◌≤◌, Bool, true, false, cond, ◌&&◌, eqb, ltb, leb, ◌⊎◌, List, [], ◌∷◌, ◌++◌, length, get_or, take, drop, decimal, sym, refl, ap, ◌∙◌, subst, inl, inr, ⊎_elim, append_assoc, append-nil, arith, length-append, eq-eqb, ne_eqb}
+use Rattle.std.proofs.Common.{◌≡◌, ℕ, ◌+◌, ◌<◌, cond, eqb, List, [], ◌∷◌, ◌++◌, length, take, drop, sym, refl, ap, ◌∙◌, ⊎_elim, arith, eq-eqb, ne_eqb}
 use Rattle.std.proofs.lemmas.Bool.{cases_eq}
-use Rattle.std.proofs.lemmas.Fmt.{decimal_is_IsNumeral, decimal-digits_value}
-use Rattle.std.proofs.lemmas.Str.Parse.{numerals_by_value, tells_digits, digit_from_value}
-use Rattle.std.proofs.lemmas.Str.{digit_value_digit}
-use Rattle.std.specs.Str.Parse.{AllDigits, digits_value_after, digits_value}
-use Rattle.std.specs.Char.{digit_value}
 use Rattle.block.specs.declared.order.Direction.{Direction}
 use Rattle.block.specs.declared.order.Direction.TheVariants.{Up, Down}
-use Rattle.reading.specs.Outcomes.{Outcome, Got, Stuck, past, mapped}
-use Rattle.reading.specs.Written.{space, line_feed, Short, direction_letter}
-use Rattle.reading.specs.Grammar.{exactly, is_digit, may_grow, more_digits, number, direction}
-use Rattle.reading.proofs.Lawful.{Lawful, Read, Ends, Starts, got_same, stuck_same, stuck_got, got_stuck}
+use Rattle.reading.specs.Outcomes.{Outcome, Got, Stuck}
+use Rattle.reading.specs.Written.{direction_letter}
+use Rattle.reading.specs.Grammar.{exactly, direction}
+use Rattle.reading.proofs.Lawful.{Lawful, Read, Ends, got_same, stuck_same, stuck_got, got_stuck}
 
 -- ONE BYTE
 

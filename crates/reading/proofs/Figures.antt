@@ -1,5 +1,5 @@
 -- The reading of a number agrees with what is written.
-use Rattle.std.proofs.Common.{◌≡◌, ℕ, zero, suc, ◌+◌, ◌-◌, ◌*◌, ◌^◌, ◌<◌, ◌≤◌, Bool, true, false, cond, ◌&&◌, eqb, ltb, leb, ◌⊎◌, List, [], ◌∷◌, ◌++◌, length, get_or, take, drop, decimal, sym, refl, ap, ◌∙◌, subst, inl, inr, ⊎_elim, append_assoc, append-nil, arith, length-append, length-take, ltb-true, lt-ltb, eq-eqb, ne_eqb, le-leb, leb-true}
+use Rattle.std.proofs.Common.{◌≡◌, ℕ, zero, suc, ◌+◌, ◌-◌, ◌*◌, ◌^◌, ◌<◌, ◌≤◌, Bool, true, false, cond, ◌&&◌, ltb, leb, ◌⊎◌, List, [], ◌∷◌, ◌++◌, length, get_or, take, drop, decimal, sym, refl, ap, ◌∙◌, subst, inl, inr, ⊎_elim, append_assoc, arith, length-append, length-take, ltb-true, lt-ltb, eq-eqb, ne_eqb, le-leb, leb-true}
 use Rattle.std.proofs.lemmas.Bool.{cases_eq, and_from}
 use Rattle.std.proofs.lemmas.Fmt.{decimal_is_IsNumeral, decimal-digits_value, decimal_digit, first_decimal}
 use Rattle.std.proofs.lemmas.Str.Parse.{numerals_by_value, tells_digits, digit_from_value}
@@ -9,7 +9,7 @@ use Rattle.std.specs.Char.{digit_value as digitValue}
 use Rattle.reading.specs.Outcomes.{Outcome, Got, Stuck, past}
 use Rattle.reading.specs.Written.{Short}
 use Rattle.reading.specs.Grammar.{is_digit, may_grow, more_digits, number}
-use Rattle.reading.proofs.Lawful.{Lawful, Read, Ends, Starts, got_same, stuck_same, stuck_got, got_stuck}
+use Rattle.reading.proofs.Lawful.{Lawful, Read, Ends, got_same, stuck_same, stuck_got, got_stuck}
 use Rattle.reading.proofs.Fields.{nothing_taken}
 
 and_true : (x y : Bool) → (x && y) ≡ true → (x ≡ true) × (y ≡ true)

@@ -1,9 +1,9 @@
 -- A heading is read exactly where it is what is written of a good one.
-use Rattle.std.proofs.Common.{◌≡◌, ℕ, ◌≤◌, Bool, true, false, cond, ◌&&◌, eqb, leb, List, [], ◌∷◌, ◌++◌, length, drop, Some, None, decimal, Option, sym, refl, ap, ◌∙◌, subst, append_assoc, append-nil, arith, eq-eqb, ne_eqb, eqb-true, le-leb, leb-true}
+use Rattle.std.proofs.Common.{◌≡◌, ℕ, Bool, true, false, cond, ◌&&◌, eqb, leb, List, [], ◌∷◌, ◌++◌, length, drop, Some, None, decimal, Option, sym, refl, ap, ◌∙◌, subst, append_assoc, append-nil, arith, eq-eqb, ne_eqb, eqb-true, le-leb, leb-true}
 use lib.Seq.{drop-length}
 use borrow.Author.Tests.{eqb-false, both_ways}
 use Rattle.std.proofs.lemmas.Bool.{and_from, and_parts}
-use Rattle.reading.specs.Grammar.{exactly, number}
+use Rattle.reading.specs.Grammar.{exactly}
 use Rattle.reading.specs.Headings.{heading_letter, GoodHeading, written_heading, is_good, checked, heading_numbers, whole_heading, heading, HeadingAs, HeadingLaw}
 use Rattle.reading.specs.Outcomes.{Outcome, Got, Stuck, mapped, both}
 use Rattle.reading.specs.Readers.{two_numbers}
@@ -11,7 +11,7 @@ use Rattle.reading.specs.Written.{space, line_feed, Short}
 use Rattle.reading.specs.declared.headings.Heading.{Heading}
 use Rattle.reading.proofs.Fields.{exactly_lawful}
 use Rattle.reading.proofs.Figures.{number_lawful}
-use Rattle.reading.proofs.Lawful.{Lawful, Read, both_lawful, got_same, stuck_got}
+use Rattle.reading.proofs.Lawful.{Lawful, both_lawful, got_same, stuck_got}
 use Rattle.reading.proofs.Strides.{Strides}
 
 abbrev Values : Type 0

@@ -1,5 +1,5 @@
 -- Readings that agree with what is written, and how they are joined.
-use Rattle.std.proofs.Common.{◌≡◌, ℕ, zero, suc, ◌+◌, ◌<◌, ◌≤◌, List, [], ◌∷◌, ◌++◌, length, take, drop, sym, refl, ap, ◌∙◌, subst, append_assoc, append-nil, arith, length-append, drop-drop}
+use Rattle.std.proofs.Common.{◌≡◌, ℕ, ◌+◌, ◌<◌, ◌≤◌, List, ◌++◌, length, take, drop, sym, refl, ap, ◌∙◌, subst, append_assoc, arith, length-append, drop-drop}
 use lib.Seq.{drop-append_seam, take-append-add}
 use Rattle.reading.specs.Outcomes.{Outcome, Got, Stuck, past, mapped, continued, both}
 

@@ -1,5 +1,5 @@
 -- The law of reading.
-use Rattle.std.proofs.Common.{◌≡◌, ℕ, zero, suc, ◌+◌, ◌-◌, ◌<◌, ◌≤◌, Bool, true, false, cond, eqb, ◌⊎◌, List, [], ◌∷◌, ◌++◌, length, take, drop, Ok, Err, Result, sym, refl, ap, ◌∙◌, subst, inl, inr, ⊎_elim, append_assoc, append-nil, arith, length-append, take-append-drop, length-take, take-take, eq-eqb, ne_eqb}
+use Rattle.std.proofs.Common.{◌≡◌, ℕ, zero, suc, ◌+◌, ◌<◌, ◌≤◌, cond, List, [], ◌++◌, length, take, drop, Ok, Err, Result, sym, refl, ap, ◌∙◌, subst, ⊎_elim, append_assoc, append-nil, arith, length-append, take-append-drop, length-take, take-take, eq-eqb, ne_eqb}
 use lib.Seq.{drop-length, take-append_seam, take-append-add}
 use Rattle.std.proofs.lemmas.Bool.{cases_eq}
 use Rattle.rules.specs.declared.calls.Call.{Call}
@@ -7,7 +7,7 @@ use Rattle.reading.specs.Outcomes.{Outcome, Got, Stuck}
 use Rattle.reading.specs.Written.{written, Writable}
 use Rattle.reading.specs.Grammar.{call_line, finished, reading}
 use Rattle.reading.specs.Law.{Begins, Unreadable, ReadAs, ReadingLaw}
-use Rattle.reading.proofs.Lawful.{Read, Ends, got_same, stuck_got, got_stuck}
+use Rattle.reading.proofs.Lawful.{Read, got_same, got_stuck}
 use Rattle.reading.proofs.CallLines.{call_reads, call_got, call_stuck}
 
 -- what is written of a call is read as that call, and as no other

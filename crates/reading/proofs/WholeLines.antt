@@ -1,5 +1,5 @@
 -- A line that is read from its start, and has to end where its call does.
-use Rattle.std.proofs.Common.{◌≡◌, ℕ, ◌+◌, cond, eqb, List, length, drop, Some, None, Ok, Err, Option, Result, sym, refl, ap, ◌∙◌, subst, arith, eq-eqb, ne_eqb}
+use Rattle.std.proofs.Common.{◌≡◌, ℕ, ◌+◌, cond, List, length, drop, Some, None, Ok, Err, Option, Result, sym, refl, ap, ◌∙◌, subst, arith, eq-eqb, ne_eqb}
 use Rattle.rules.specs.declared.calls.Call.{Call}
 use Rattle.reading.specs.Grammar.{call_line, finished, reading}
 use Rattle.reading.specs.Law.{ReadAs}

@@ -1,5 +1,5 @@
 -- What reading from the front of some bytes comes to.
-use Rattle.std.specs.Prelude.{ℕ, zero, ◌+◌, List, drop, Some, None, Option}
+use Rattle.std.specs.Prelude.{ℕ, ◌+◌, List, drop, Some, None, Option}
 
 -- A value and how many bytes it took; or how many bytes were good before one that was not.
 pub data Outcome (A : Type 0) : Type 0 where

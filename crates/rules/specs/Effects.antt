@@ -1,5 +1,5 @@
 -- What an accepted call does.
-use Rattle.std.specs.Prelude.{ℕ, Bool, true, false, List, Some, None, Option, slice_set}
+use Rattle.std.specs.Prelude.{ℕ, true, false, List, Some, None, Option, slice_set}
 use Rattle.block.specs.Meaning.{after}
 use Rattle.block.specs.declared.order.Action.{Action}
 use Rattle.block.specs.declared.order.Direction.{Direction}
@@ -12,7 +12,6 @@ use Rattle.rules.specs.declared.calls.Call.TheVariants.{PlaceTrain, WithdrawTrai
 use Rattle.rules.specs.declared.signals.BlockSignal.TheVariants.{Closed, Open, Fallen}
 use Rattle.rules.specs.declared.signals.HomeSignal.TheVariants.{Shut, Open as HomeOpen}
 use Rattle.rules.specs.declared.signals.SectionState.{SectionState}
-use Rattle.trains.specs.declared.places.Place.{Place}
 use Rattle.trains.specs.declared.places.Place.TheVariants.{AtPost, Running, OnPedal}
 use Rattle.trains.specs.declared.places.TrainRecord.{TrainRecord}
 

@@ -1,5 +1,5 @@
 -- The slip of an unsealing.
-use Rattle.std.specs.Prelude.{ℕ, Bool, true, cond, List, Some, None, Ok, Err, Option, Result}
+use Rattle.std.specs.Prelude.{ℕ, true, cond, List, Some, None, Ok, Err, Option, Result}
 use Rattle.book.specs.Entered.{full}
 use Rattle.rules.specs.declared.calls.Call.{Call}
 use Rattle.rules.specs.declared.calls.Call.TheVariants.{PlaceTrain, WithdrawTrain, GiveRelease, OpenSignal, CloseSignal, EnterSection, ReturnRelease, OpenHome, ShutHome, ReachPedal, LeaveSection, ClearSection, UnsealSection, RestoreSection}

@@ -1,7 +1,6 @@
 -- The answer to a whole sheet, test by test.
-use Rattle.std.proofs.Common.{◌≡◌, ℕ, ◌+◌, ◌*◌, ◌<◌, ◌≤◌, Bool, true, false, cond, ◌||◌, ltb, List, [], ◌∷◌, ◌++◌, length, take, drop, Some, None, Ok, Err, Option, Result, sym, refl, ap, ◌∙◌, subst, arith, take-append-drop, le-ltb, lt-ltb}
+use Rattle.std.proofs.Common.{◌≡◌, ℕ, ◌<◌, ◌≤◌, false, cond, ◌||◌, ltb, List, [], ◌∷◌, ◌++◌, length, take, drop, Some, None, Ok, Err, sym, ap, ◌∙◌, subst, take-append-drop, le-ltb, lt-ltb}
 use Rattle.std.proofs.lemmas.Bool.{or_left, or_right, or_from}
-use Rattle.answers.specs.declared.refusals.SheetRefusal.{SheetRefusal}
 use Rattle.answers.specs.declared.refusals.SheetRefusal.TheVariants.{TooLong, BadHeading, ShortBuffer}
 use Rattle.book.specs.declared.Book as lent
 use Rattle.reading.specs.Headings.{heading, GoodHeading, HeadingAs}
@@ -10,7 +9,7 @@ use Rattle.reading.specs.Lines.{lines}
 use Rattle.reading.specs.declared.headings.Heading.{Heading}
 use Rattle.turn.proofs.Playing.{lawful}
 use Rattle.writing.specs.Facts.{wrote_fits}
-use Rattle.writing.specs.Pens.{Pen, pen_of, wrote}
+use Rattle.writing.specs.Pens.{pen_of, wrote}
 use Rattle.sheet.specs.Played.{readable}
 use Rattle.sheet.specs.Sheets.{first_turn, played_text, headed, by_first_line, least_room, sheet_answer, SheetLaw}
 use Rattle.sheet.proofs.Beginning.{begins_new}

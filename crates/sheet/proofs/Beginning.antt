@@ -1,5 +1,5 @@
 -- How the turn of a sheet begins.
-use Rattle.std.proofs.Common.{◌≡◌, ℕ, zero, suc, ◌+◌, ◌-◌, ◌≤◌, min, Bool, true, false, cond, ◌&&◌, eqb, List, [], ◌∷◌, ◌++◌, length, take, replicate, sym, refl, ap, ◌∙◌, subst, arith, length-take, take_all, ne_eqb}
+use Rattle.std.proofs.Common.{◌≡◌, ℕ, zero, suc, ◌+◌, ◌-◌, ◌≤◌, min, true, cond, List, [], ◌++◌, length, take, replicate, refl, ap, ◌∙◌, arith, length-take, take_all, ne_eqb}
 use lib.ListN.{length-replicate, replicate-append-replicate}
 use Rattle.block.specs.declared.order.Phase.{Phase}
 use Rattle.block.specs.declared.order.Phase.TheVariants.{Rest}

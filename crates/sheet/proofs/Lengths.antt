@@ -1,5 +1,5 @@
 -- How long an answer can be.
-use Rattle.std.proofs.Common.{◌≡◌, ℕ, suc, ◌+◌, ◌*◌, ◌<◌, ◌≤◌, Bool, true, false, cond, List, [], ◌∷◌, ◌++◌, length, Some, None, Ok, Err, Option, Result, sym, refl, ap, ◌∙◌, subst, arith, length-append}
+use Rattle.std.proofs.Common.{◌≡◌, ℕ, suc, ◌+◌, ◌*◌, ◌<◌, ◌≤◌, Bool, true, false, cond, List, [], ◌∷◌, ◌++◌, length, Some, None, Ok, Err, Option, Result, refl, ap, ◌∙◌, arith, length-append}
 use Rattle.answers.proofs.Bounds.{heading_short}
 use Rattle.answers.proofs.Refused.{Brief, nothing_brief, refused_brief, place_brief, ok_short, refused_short}
 use Rattle.answers.specs.Numbers.{turn_values}

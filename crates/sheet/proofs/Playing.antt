@@ -1,9 +1,9 @@
 -- One line more of a sheet that is played.
-use Rattle.std.proofs.Common.{◌≡◌, ℕ, suc, ◌+◌, List, [], ◌∷◌, ◌++◌, length, Some, None, Ok, Err, Result, sym, refl, ap, ◌∙◌, arith}
+use Rattle.std.proofs.Common.{◌≡◌, ℕ, suc, ◌+◌, List, [], ◌∷◌, Some, None, Ok, Err, Result, sym, refl, ap, ◌∙◌, arith}
 use Rattle.answers.specs.Texts.{told_text}
 use Rattle.answers.specs.declared.refusals.SheetRefusal.{SheetRefusal}
 use Rattle.reading.specs.Grammar.{reading}
-use Rattle.reading.specs.Lines.{lines, first_line, other_lines}
+use Rattle.reading.specs.Lines.{first_line, other_lines}
 use Rattle.rules.specs.declared.calls.Call.{Call}
 use Rattle.turn.specs.Turn.{TurnState, run}
 use Rattle.writing.specs.Facts.{wrote_twice, wrote_nothing}

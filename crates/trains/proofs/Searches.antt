@@ -1,5 +1,5 @@
 -- What the search for the first record that passes tells.
-use Rattle.std.proofs.Common.{◌≡◌, ℕ, zero, suc, ◌+◌, ◌-◌, ◌<◌, ◌≤◌, Bool, true, false, cond, ◌||◌, List, [], ◌∷◌, length, get_or, drop, set, is_some, Some, None, Option, sym, refl, ap, ◌∙◌, add-one, arith, drop-cons}
+use Rattle.std.proofs.Common.{◌≡◌, ℕ, suc, ◌+◌, ◌-◌, ◌<◌, ◌≤◌, Bool, true, false, cond, ◌||◌, List, [], ◌∷◌, length, get_or, drop, set, is_some, Some, None, sym, refl, ap, ◌∙◌, add-one, arith, drop-cons}
 use native.Mathlib.Nat.{sub-zero}
 use Rattle.trains.specs.Trains.{any, first_from, put_first}
 use Rattle.trains.specs.declared.places.TrainRecord.{TrainRecord}

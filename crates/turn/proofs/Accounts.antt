@@ -1,21 +1,20 @@
 -- From a turn in good order: the two books.
-use Rattle.std.proofs.Common.{◌≡◌, ℕ, suc, ◌+◌, ◌<◌, ◌≤◌, Bool, true, false, cond, eqb, ◌⊎◌, List, [], ◌∷◌, ◌++◌, length, Some, None, Option, sym, refl, ap, ◌∙◌, subst, inl, inr, ⊎_elim, append_assoc, append-nil, arith}
+use Rattle.std.proofs.Common.{◌≡◌, ℕ, ◌<◌, true, false, eqb, ◌⊎◌, List, [], ◌∷◌, ◌++◌, length, Some, None, Option, sym, refl, ap, ◌∙◌, inl, inr, ⊎_elim, append_assoc, append-nil, arith}
 use Rattle.std.proofs.lemmas.Bool.{cases_lt}
 use Rattle.block.specs.declared.order.Direction.{Direction}
 use Rattle.rules.specs.declared.calls.Call.{Call}
 use Rattle.turn.specs.Law.{Awaits, row_where, rows_of, Books}
 use Rattle.turn.specs.Rows.{kind_code, row_of}
 use Rattle.turn.specs.Telling.{Told}
-use Rattle.turn.specs.Turn.{TurnState, turn_refusal, worked, step, run}
+use Rattle.turn.specs.Turn.{TurnState, turn_refusal, step, run}
 use Rattle.turn.specs.declared.refusals.TurnRefusal.{TurnRefusal}
-use Rattle.turn.specs.declared.rows.Kind.{Kind}
-use Rattle.turn.specs.declared.rows.Kind.TheVariants.{Giving, Opening, Entry, Leaving, Clearing, Unsealing}
+use Rattle.turn.specs.declared.rows.Kind.TheVariants.{Giving, Leaving, Unsealing}
 use Rattle.turn.specs.declared.rows.RegisterRow.{RegisterRow}
 use Rattle.turn.proofs.Good.{Good}
 use Rattle.turn.proofs.Runs.{stepped, stayed, good_run}
 use Rattle.turn.proofs.Trails.{Mark, Among, oldest, Falling, Trail, lacks, not_first, the_first, later, none_later}
 use Rattle.turn.proofs.Trips.{entry_row}
-use Rattle.turn.proofs.Ways.{Past, never, by_train, by_seal, Use, unused, running, pressing, gone, Way, rest, given, held, cleared, owed, giving_row, opening_row, leaving_row, clearing_row, unsealing_row, opened_marks, left_marks, use_marks, past_marks, marks_of}
+use Rattle.turn.proofs.Ways.{Past, never, by_train, by_seal, unused, running, pressing, gone, Way, rest, given, held, cleared, owed, giving_row, opening_row, leaving_row, clearing_row, unsealing_row, opened_marks, left_marks, past_marks, marks_of}
 
 -- a trail whose oldest row is a giving, and its only one
 pub record Begun (k : ℕ) (ms : List Mark) : Type 0 where

@@ -1,5 +1,5 @@
 -- Two turns that differ at the most in which records hold their trains answer alike, and stay so.
-use Rattle.std.proofs.Common.{◌≡◌, ℕ, Bool, true, false, cond, not, List, [], ◌∷◌, ◌++◌, length, is_some, Some, None, Option, sym, refl, ap, ◌∙◌, subst, subst₂}
+use Rattle.std.proofs.Common.{◌≡◌, ℕ, false, cond, not, List, [], ◌∷◌, ◌++◌, is_some, Some, None, Option, sym, refl, ap, ◌∙◌, subst, subst₂}
 use Rattle.block.specs.declared.order.Action.TheVariants.{Clear}
 use Rattle.block.specs.declared.order.Direction.{Direction}
 use Rattle.std.specs.Option.{option_map}
@@ -11,20 +11,18 @@ use Rattle.rules.specs.State.{LineState, section_at, block_signal, is_open}
 use Rattle.trains.specs.Trains.{place_of, departs, runs, presses, stands_at, taken, bears, put_first, exit_post}
 use Rattle.rules.specs.declared.calls.Call.{Call}
 use Rattle.rules.specs.declared.calls.Call.TheVariants.{PlaceTrain, WithdrawTrain, GiveRelease, OpenSignal, CloseSignal, EnterSection, ReturnRelease, OpenHome, ShutHome, ReachPedal, LeaveSection, ClearSection, UnsealSection, RestoreSection}
-use Rattle.rules.specs.declared.refusals.LineRefusal.{LineRefusal}
 use Rattle.rules.specs.declared.refusals.LineRefusal.TheVariants.{TrainPresent, TableFull, TrainAbsent, BlockSignalWrong, PedalWrong, SectionOccupied}
 use Rattle.trains.specs.declared.places.Place.{Place}
 use Rattle.trains.specs.declared.places.Place.TheVariants.{AtPost, Running, OnPedal}
 use Rattle.trains.specs.declared.places.TrainRecord.{TrainRecord}
 use Rattle.turn.specs.Alike.{SameTrains, Alike}
-use Rattle.turn.specs.Rows.{row_of, kind_of, unsealing}
+use Rattle.turn.specs.Rows.{kind_of, unsealing}
 use Rattle.turn.specs.Turn.{TurnState, full, no_seal_row, turn_refusal, turn_answer, answer_of, worked, step}
-use Rattle.turn.specs.declared.refusals.TurnRefusal.{TurnRefusal}
 use Rattle.turn.specs.declared.refusals.TurnRefusal.TheVariants.{RegisterFull, SealBookFull, Line}
 use Rattle.turn.proofs.Alikes.{same_free, same_occupied, same_pressed, same_moved, same_off, same_new}
 use Rattle.turn.proofs.Decode.{checked, no_ground, somewhere}
 use Rattle.turn.proofs.Inversions.{runs_there, presses_there, departs_there}
-use Rattle.turn.proofs.Runs.{Admitted, admitted, stepped, stayed}
+use Rattle.turn.proofs.Runs.{admitted, stepped, stayed}
 use Rattle.turn.proofs.Tests.{none_some, true_false, not_false}
 
 -- the same line with another table of trains

@@ -1,5 +1,5 @@
 -- From a turn in good order: trains are kept apart, each under its release.
-use Rattle.std.proofs.Common.{◌≡◌, ℕ, suc, ◌+◌, ◌<◌, ◌≤◌, Bool, true, false, cond, eqb, ◌⊎◌, List, [], ◌∷◌, ◌++◌, length, Some, None, Option, sym, refl, ap, ◌∙◌, subst, inl, inr, ⊎_elim, arith, eq-eqb, eqb-true}
+use Rattle.std.proofs.Common.{◌≡◌, ℕ, ◌<◌, Bool, true, false, cond, eqb, ◌⊎◌, List, [], ◌∷◌, length, Some, None, Option, sym, refl, ap, ◌∙◌, subst, inl, inr, ⊎_elim, arith, eq-eqb, eqb-true}
 use Rattle.std.proofs.lemmas.Bool.{cases_lt}
 use Rattle.block.specs.Meaning.{phase_at}
 use Rattle.block.specs.declared.order.Direction.{Direction}
@@ -10,10 +10,9 @@ use Rattle.trains.specs.Trains.{place_of, is_inside}
 use Rattle.trains.specs.declared.places.Place.{Place}
 use Rattle.trains.specs.declared.places.Place.TheVariants.{AtPost, Running, OnPedal}
 use Rattle.turn.specs.Law.{Inside, Released, Apart}
-use Rattle.turn.specs.Telling.{Told, ToldFor, ToldOf, inside_at}
+use Rattle.turn.specs.Telling.{inside_at}
 use Rattle.turn.specs.Turn.{TurnState}
-use Rattle.turn.specs.declared.rows.Kind.{Kind}
-use Rattle.turn.specs.declared.rows.Kind.TheVariants.{Giving, Opening, Entry, Leaving, Clearing, Unsealing}
+use Rattle.turn.specs.declared.rows.Kind.TheVariants.{Giving, Opening, Clearing, Unsealing}
 use Rattle.turn.specs.declared.rows.RegisterRow.{RegisterRow}
 use Rattle.turn.proofs.Good.{Good}
 use Rattle.turn.proofs.Inversions.{is_running, is_pressing_there}
@@ -22,8 +21,8 @@ use Rattle.turn.proofs.Moves.{running_at, pressing_at}
 use Rattle.turn.proofs.Places.{same}
 use Rattle.turn.proofs.Tests.{none_some, some_same, true_false}
 use Rattle.turn.proofs.Trails.{Mark, Among, Falling, Trail, not_first, the_first, later, none_later}
-use Rattle.turn.proofs.Trips.{entry_row, Left, Came, Within, Outside, Trip}
-use Rattle.turn.proofs.Ways.{Use, unused, running, pressing, gone, Lever, pulled, put_back, returned, Way, rest, given, held, cleared, held_phase, inside_of, giving_row, opening_row, opened_marks}
+use Rattle.turn.proofs.Trips.{entry_row, Left, Came, Within, Trip}
+use Rattle.turn.proofs.Ways.{unused, running, pressing, gone, Lever, pulled, put_back, returned, Way, rest, given, held, cleared, held_phase, inside_of, giving_row, opening_row, opened_marks}
 
 module _ (rows : List RegisterRow) (n k : ℕ) where
   came : (x : Inside rows n k) → Came rows n x.entry

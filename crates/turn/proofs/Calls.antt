@@ -1,10 +1,9 @@
 -- One call of a turn, from its parts: the books' room, the line, the rows.
-use Rattle.std.proofs.Common.{◌≡◌, ℕ, Bool, true, false, cond, List, [], ◌∷◌, ◌++◌, length, is_some, Some, None, Ok, Err, Option, Result, sym, refl, ap, ◌∙◌}
+use Rattle.std.proofs.Common.{◌≡◌, ℕ, Bool, true, false, cond, is_some, Some, None, Ok, Err, Option, sym, refl, ap}
 use Rattle.std.specs.Option.{option_map}
 use Rattle.rules.specs.Checks.{refusal}
-use Rattle.line.specs.Lines.{answered, line_answer}
+use Rattle.line.specs.Lines.{answered}
 use Rattle.rules.specs.Slips.{slip_of}
-use Rattle.rules.specs.State.{LineState}
 use Rattle.rules.specs.declared.calls.Call.{Call}
 use Rattle.rules.specs.declared.calls.Call.TheVariants.{PlaceTrain, WithdrawTrain, GiveRelease, OpenSignal, CloseSignal, EnterSection, ReturnRelease, OpenHome, ShutHome, ReachPedal, LeaveSection, ClearSection, UnsealSection, RestoreSection}
 use Rattle.rules.specs.declared.refusals.LineRefusal.{LineRefusal}
@@ -16,7 +15,7 @@ use Rattle.turn.specs.Turns.{admission, slip_rows}
 use Rattle.turn.specs.declared.refusals.TurnRefusal.{TurnRefusal}
 use Rattle.turn.specs.declared.refusals.TurnRefusal.TheVariants.{RegisterFull, SealBookFull, Line}
 use Rattle.turn.specs.declared.rows.RegisterRow.{RegisterRow}
-use Rattle.turn.proofs.Tests.{none_some, some_same, true_false}
+use Rattle.turn.proofs.Tests.{none_some, true_false}
 
 -- what was answered tells the refusal
 pub admitted_err : (o : Option TurnRefusal) (e : TurnRefusal) → answer_of o ≡ Err e → o ≡ Some e

@@ -1,5 +1,5 @@
 -- What an accepted call shows: each of its checks has passed.
-use Rattle.std.proofs.Common.{◌≡◌, ℕ, ◌<◌, ◌≤◌, Bool, true, false, not, ◌||◌, ltb, leb, List, [], ◌∷◌, is_some, Some, None, Ok, Err, Option, Result, sym, refl, ap, ◌∙◌, ltb-false, leb-false}
+use Rattle.std.proofs.Common.{◌≡◌, ℕ, ◌<◌, Bool, true, false, List, [], ◌∷◌, Some, None, Ok, Err, Option, Result, sym, refl, ap, ◌∙◌, leb-false}
 use Rattle.block.specs.Meaning.{answer}
 use Rattle.block.specs.declared.order.Action.{Action}
 use Rattle.block.specs.declared.order.Direction.{Direction}
@@ -12,7 +12,7 @@ use Rattle.rules.specs.declared.calls.Call.{Call}
 use Rattle.rules.specs.declared.signals.Condition.TheVariants.{Sound}
 use Rattle.rules.specs.declared.refusals.LineRefusal.{LineRefusal}
 use Rattle.rules.specs.declared.refusals.LineRefusal.TheVariants.{Instrument}
-use Rattle.turn.proofs.Tests.{none_some, true_false}
+use Rattle.turn.proofs.Tests.{none_some}
 
 -- each of the checks passes
 abbrev pub Pass : List (Option LineRefusal) → Type 0

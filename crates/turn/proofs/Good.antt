@@ -1,14 +1,14 @@
 -- A turn in good order: every section stands in some way, and every train has made only whole trips. A call that is accepted
 -- leaves it so, if it leaves its own section so.
-use Rattle.std.proofs.Common.{◌≡◌, ℕ, suc, ◌+◌, ◌<◌, ◌≤◌, Bool, true, false, cond, List, [], ◌∷◌, ◌++◌, length, get_or, set, Some, None, Option, sym, refl, ap, ◌∙◌, subst, append_assoc, append-nil, arith, length-set, get_or-set_other, get_or-set_same}
-use Rattle.block.specs.Meaning.{phase_at, after}
+use Rattle.std.proofs.Common.{◌≡◌, ℕ, suc, ◌+◌, ◌<◌, ◌≤◌, List, [], ◌∷◌, ◌++◌, length, Some, None, Option, sym, refl, ap, ◌∙◌, subst, append_assoc, append-nil, arith, length-set, get_or-set_other, get_or-set_same}
+use Rattle.block.specs.Meaning.{phase_at}
 use Rattle.block.specs.declared.order.Action.{Action}
 use Rattle.block.specs.declared.order.Direction.{Direction}
 use Rattle.block.specs.declared.order.Phase.{Phase}
 use Rattle.block.proofs.Steps as steps
 use Rattle.rules.specs.Calls.{train_of, section_of, direction_of}
 use Rattle.rules.specs.Checks.{train_unknown}
-use Rattle.rules.specs.Effects.{section_effect, trains_effect, phases_effect, sections_effect, effect}
+use Rattle.rules.specs.Effects.{section_effect, phases_effect, sections_effect, effect}
 use Rattle.rules.specs.Calls.{action_of}
 use Rattle.rules.specs.State.{LineState, count, section_at, idle}
 use Rattle.trains.specs.Trains.{place_of}

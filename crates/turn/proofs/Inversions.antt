@@ -1,19 +1,17 @@
 -- What a fact about a section says of the way in which it stands.
-use Rattle.std.proofs.Common.{◌≡◌, ℕ, Bool, true, false, cond, eqb, Some, None, Option, sym, refl, ap, ◌∙◌, subst, arith, eq-eqb, eqb-true}
+use Rattle.std.proofs.Common.{◌≡◌, ℕ, Bool, true, false, cond, eqb, Some, None, Option, sym, refl, ap, ◌∙◌, arith, eq-eqb, eqb-true}
 use Rattle.block.specs.Order.{same_direction}
 use Rattle.block.specs.declared.order.Direction.{Direction}
 use Rattle.block.specs.declared.order.Direction.TheVariants.{Up, Down}
-use Rattle.block.specs.declared.order.Phase.{Phase}
 use Rattle.block.specs.declared.order.Phase.TheVariants.{Rest, Given, Opened, Returned, Cleared}
 use Rattle.rules.specs.State.{is_closed, is_open}
-use Rattle.trains.specs.Trains.{departs, runs, presses, is_inside}
+use Rattle.trains.specs.Trains.{departs, runs, presses}
 use Rattle.rules.specs.declared.signals.BlockSignal.{BlockSignal}
 use Rattle.rules.specs.declared.signals.BlockSignal.TheVariants.{Closed, Open, Fallen}
 use Rattle.trains.specs.declared.places.Place.{Place}
 use Rattle.trains.specs.declared.places.Place.TheVariants.{AtPost, Running, OnPedal}
-use Rattle.turn.specs.Telling.{inside_at}
 use Rattle.turn.proofs.Tests.{none_some, some_same, true_false}
-use Rattle.turn.proofs.Ways.{Past, Use, unused, running, pressing, gone, Lever, pulled, put_back, returned, Way, rest, given, held, cleared, phase_of, signal_of, block_of, pedal_of, use_pedal, inside_of, use_inside}
+use Rattle.turn.proofs.Ways.{Past, Use, unused, running, pressing, gone, Lever, pulled, put_back, returned, Way, rest, given, held, cleared, phase_of, signal_of, block_of, use_pedal, inside_of, use_inside}
 
 -- two different constructors are never equal
 clash : {X : Type 0} → ◌≡◌ {A = ℕ} 0 1 → X

@@ -1,32 +1,28 @@
 -- Each accepted call keeps a turn in good order: the way in which its section stands before it, and after it.
-use Rattle.std.proofs.Common.{◌≡◌, ℕ, suc, ◌+◌, ◌<◌, ◌≤◌, Bool, true, false, cond, not, eqb, List, [], ◌∷◌, ◌++◌, length, Some, None, Option, sym, refl, ap, ◌∙◌, subst, arith, eq-eqb}
+use Rattle.std.proofs.Common.{◌≡◌, ℕ, Bool, true, false, cond, [], ◌∷◌, ◌++◌, length, None, sym, refl, ap, ◌∙◌, subst, arith}
 use Rattle.block.specs.Meaning.{phase_at}
-use Rattle.block.specs.Order.{same_direction, leaves, brings}
-use Rattle.block.specs.declared.order.Action.{Action}
+use Rattle.block.specs.Order.{same_direction}
 use Rattle.block.specs.declared.order.Action.TheVariants.{Give, Open as OpenAction, Return, Clear, Restore}
 use Rattle.block.specs.declared.order.Direction.{Direction}
 use Rattle.block.proofs.Steps as steps
-use Rattle.rules.specs.Calls.{direction_of}
-use Rattle.rules.specs.Checks.{refusal, instrument_refuses, section_unknown, going, home_open, home_shut}
+use Rattle.rules.specs.Checks.{refusal}
 use Rattle.rules.specs.Effects.{effect}
-use Rattle.rules.specs.State.{count, section_at, block_signal, with_block, with_home, with_pedal, is_closed, is_open}
+use Rattle.rules.specs.State.{section_at}
 use Rattle.trains.specs.Trains.{place_of}
 use Rattle.rules.specs.declared.calls.Call.{Call}
-use Rattle.rules.specs.declared.calls.Call.TheVariants.{PlaceTrain, WithdrawTrain, GiveRelease, OpenSignal, CloseSignal, EnterSection, ReturnRelease, OpenHome, ShutHome, ReachPedal, LeaveSection, ClearSection, UnsealSection, RestoreSection}
+use Rattle.rules.specs.declared.calls.Call.TheVariants.{GiveRelease, OpenSignal, CloseSignal, ReturnRelease, OpenHome, ShutHome, ClearSection, UnsealSection, RestoreSection}
 use Rattle.rules.specs.declared.signals.BlockSignal.{BlockSignal}
-use Rattle.rules.specs.declared.signals.BlockSignal.TheVariants.{Closed, Open, Fallen}
+use Rattle.rules.specs.declared.signals.BlockSignal.TheVariants.{Closed, Open}
 use Rattle.rules.specs.declared.signals.HomeSignal.TheVariants.{Shut, Open as HomeOpen}
-use Rattle.trains.specs.declared.places.Place.{Place}
 use Rattle.turn.specs.Rows.{kind_of, row_of}
-use Rattle.turn.specs.Telling.{inside_at}
-use Rattle.turn.specs.Turn.{TurnState, worked}
-use Rattle.turn.proofs.Decode.{no_ground, section_there, instrument_works, somewhere, checked}
-use Rattle.turn.proofs.Good.{Good, Kept, Trains, quiet, kept}
+use Rattle.turn.specs.Turn.{TurnState}
+use Rattle.turn.proofs.Decode.{section_there, instrument_works, checked}
+use Rattle.turn.proofs.Good.{Good, Kept, quiet, kept}
 use Rattle.turn.proofs.Signals.{block_changed, block_beside_home, block_beside_pedal, pedal_beside_block, pedal_beside_home}
 use Rattle.turn.proofs.Standing.{Standing, stand_own}
-use Rattle.turn.proofs.Tests.{none_some, true_false, not_false}
+use Rattle.turn.proofs.Tests.{true_false}
 use Rattle.turn.proofs.Trails.{bearing, Trail, trail_past, trail_more, trail_new, falling_more}
-use Rattle.turn.proofs.Ways.{Past, by_train, by_seal, Use, Lever, gone, unused, pulled, put_back, returned, Way, rest, given, held, cleared, phase_of, signal_of, block_of, marks_of}
+use Rattle.turn.proofs.Ways.{Past, by_train, by_seal, Use, gone, unused, pulled, put_back, returned, Way, rest, given, held, cleared, signal_of, marks_of}
 
 module _ (t : TurnState) (g : Good t) where
   -- section k, in a way that is known

@@ -1,5 +1,5 @@
 -- The law of every turn, whole.
-use Rattle.std.proofs.Common.{◌≡◌, ℕ, List, Some, None, Err, Option, sym, refl, arith}
+use Rattle.std.proofs.Common.{◌≡◌, ℕ, List, Some, None, Err, Option, refl, arith}
 use Rattle.rules.specs.declared.calls.Call.{Call}
 use Rattle.turn.specs.Law.{TurnLaw, Law}
 use Rattle.turn.specs.Turn.{TurnState, turn_refusal, answer_of, step, run}

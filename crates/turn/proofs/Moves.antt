@@ -1,5 +1,5 @@
 -- The calls that name a train keep a turn in good order.
-use Rattle.std.proofs.Common.{◌≡◌, ℕ, suc, ◌+◌, ◌<◌, ◌≤◌, Bool, true, false, cond, not, eqb, ◌⊎◌, List, [], ◌∷◌, ◌++◌, length, is_some, Some, None, Option, sym, refl, ap, ◌∙◌, subst, inl, inr, ⊎_elim, arith, eq-eqb, ne_eqb}
+use Rattle.std.proofs.Common.{◌≡◌, ℕ, ◌≤◌, Bool, true, false, cond, eqb, [], ◌∷◌, ◌++◌, length, is_some, Some, None, Option, sym, refl, ap, ◌∙◌, subst, ⊎_elim, arith, eq-eqb, ne_eqb}
 use Rattle.std.proofs.lemmas.Bool.{cases_eq}
 use Rattle.block.specs.Meaning.{phase_at}
 use Rattle.block.specs.Order.{same_direction}
@@ -11,7 +11,6 @@ use Rattle.rules.specs.State.{section_at, with_block, with_pedal}
 use Rattle.trains.specs.Trains.{free, taken, bears, is_free, any, place_of, put_first, runs, presses, stands_at, exit_post}
 use Rattle.rules.specs.declared.calls.Call.{Call}
 use Rattle.rules.specs.declared.calls.Call.TheVariants.{PlaceTrain, WithdrawTrain, EnterSection, ReachPedal, LeaveSection}
-use Rattle.rules.specs.declared.signals.BlockSignal.{BlockSignal}
 use Rattle.rules.specs.declared.signals.BlockSignal.TheVariants.{Closed, Open, Fallen}
 use Rattle.trains.specs.declared.places.Place.{Place}
 use Rattle.trains.specs.declared.places.Place.TheVariants.{AtPost, Running, OnPedal}
@@ -19,7 +18,7 @@ use Rattle.turn.specs.Alike.{copies, Once}
 use Rattle.turn.specs.Rows.{row_of}
 use Rattle.turn.specs.Telling.{inside_at}
 use Rattle.turn.specs.Turn.{TurnState, worked}
-use Rattle.turn.proofs.Decode.{checked, no_ground, section_there, somewhere}
+use Rattle.turn.proofs.Decode.{checked, no_ground, section_there}
 use Rattle.turn.proofs.Good.{Good, Kept, Trains, kept, kept_nowhere}
 use Rattle.turn.proofs.Keeps.{standing, trail_still}
 use Rattle.turn.proofs.Signals.{block_changed, block_beside_pedal, pedal_beside_block}
@@ -28,8 +27,8 @@ use Rattle.turn.proofs.Tables.{bears_one, free_bears, taken_bears, place_other, 
 use Rattle.turn.specs.declared.rows.Kind.TheVariants.{Entry, Leaving}
 use Rattle.turn.proofs.Tests.{none_some, some_same, true_false, not_false}
 use Rattle.turn.proofs.Trails.{trail_more, falling_more}
-use Rattle.turn.proofs.Trips.{entry_row, Trip, Within, Outside, trip_past, trip_left, trip_entered}
-use Rattle.turn.proofs.Ways.{unused, running, pressing, gone, Lever, pulled, put_back, returned, Way, held, marks_of, signal_of, leaving_row}
+use Rattle.turn.proofs.Trips.{entry_row, Trip, Within, trip_past, trip_left, trip_entered}
+use Rattle.turn.proofs.Ways.{unused, running, pressing, gone, Lever, pulled, put_back, returned, held, marks_of, signal_of, leaving_row}
 
 -- a train other than the one that a row names has no part in it
 other_train : {m n : ℕ} → (m ≡ n → ⊥) → (o : Option ℕ) → o ≡ Some n → o ≡ Some m → ⊥

@@ -1,5 +1,5 @@
 -- One call more of a list that is played.
-use Rattle.std.proofs.Common.{◌≡◌, ℕ, ◌+◌, ◌<◌, ◌≤◌, List, [], ◌∷◌, ◌++◌, length, get_or, take, drop, set, Result, sym, refl, ap, ◌∙◌, subst, append_assoc, append-nil, arith, take-append-drop, length-take, get_or-take, drop-drop, drop-set-lt}
+use Rattle.std.proofs.Common.{◌≡◌, ℕ, ◌+◌, ◌<◌, ◌≤◌, List, [], ◌∷◌, ◌++◌, length, get_or, take, drop, set, Result, sym, ap, ◌∙◌, subst, append_assoc, append-nil, arith, take-append-drop, length-take, get_or-take, drop-drop, drop-set-lt}
 use Rattle.std.proofs.lemmas.List.{drop_all, drop_more, take_more_set}
 use Rattle.rules.specs.declared.calls.Call.{Call}
 use Rattle.turn.specs.Law.{TurnLaw}

@@ -1,50 +1,46 @@
 -- From a turn in good order: every section can be brought to rest. One call takes it one step nearer, and at most eight are left.
-use Rattle.std.proofs.Common.{◌≡◌, ℕ, zero, suc, ◌+◌, ◌<◌, ◌≤◌, Bool, true, false, cond, not, eqb, leb, ◌⊎◌, List, [], ◌∷◌, ◌++◌, length, is_some, Some, None, Ok, Err, Option, Result, sym, refl, ap, ◌∙◌, subst, inl, inr, ⊎_elim, arith, length-append, eq-eqb}
+use Rattle.std.proofs.Common.{◌≡◌, ℕ, zero, suc, ◌+◌, ◌<◌, ◌≤◌, Bool, true, false, cond, not, ◌⊎◌, List, [], ◌∷◌, length, is_some, Some, None, Ok, Err, Option, sym, refl, ap, ◌∙◌, subst, inl, inr, ⊎_elim, arith, length-append, eq-eqb}
 use borrow.Author.Tests.{lt-leb}
 use Rattle.std.proofs.lemmas.List.{length_push}
 use Rattle.std.proofs.lemmas.Bool.{and_parts}
-use Rattle.block.specs.Meaning.{worked as instrument-worked, answer_of, phase_at, answer}
-use Rattle.block.specs.Order.{phase_code, same_direction, leaves, brings}
+use Rattle.block.specs.Meaning.{worked as instrument-worked, answer_of, phase_at}
+use Rattle.block.specs.Order.{phase_code, leaves, brings}
 use Rattle.block.specs.Refusals.{refusal as instrument-refusal}
 use Rattle.block.specs.declared.order.Action.{Action}
 use Rattle.block.specs.declared.order.Action.TheVariants.{Open as OpenAction, Return, Clear, Restore}
 use Rattle.block.specs.declared.order.Direction.{Direction}
 use Rattle.block.specs.declared.order.Phase.TheVariants.{Rest}
-use Rattle.block.specs.declared.refusals.InstrumentRefusal.{InstrumentRefusal}
 use Rattle.block.proofs.Laws.{answer_there}
 use Rattle.std.specs.Option.{option_map}
 use Rattle.std.specs.Result.{result_err}
-use Rattle.rules.specs.Calls.{train_of, section_of, direction_of}
-use Rattle.rules.specs.Checks.{refused_if, refusal, checks, section_unknown, instrument_refuses, home_open, home_shut, going}
+use Rattle.rules.specs.Calls.{section_of, direction_of}
+use Rattle.rules.specs.Checks.{checks, section_unknown, instrument_refuses, home_shut, going}
 use Rattle.rules.specs.Effects.{effect, section_effect, trains_effect}
 use Rattle.rules.specs.Calls.{action_of}
 use Rattle.rules.specs.State.{LineState, count, section_at, block_signal, home_signal, is_closed, home_is_open}
 use Rattle.trains.specs.Trains.{place_of, runs, presses, exit_post, is_inside, is_pressing, occupied, pedal_pressed}
 use Rattle.rules.specs.declared.calls.Call.{Call}
 use Rattle.rules.specs.declared.calls.Call.TheVariants.{OpenSignal, CloseSignal, ReturnRelease, OpenHome, ShutHome, ReachPedal, LeaveSection, ClearSection, UnsealSection, RestoreSection}
-use Rattle.rules.specs.declared.refusals.LineRefusal.{LineRefusal}
 use Rattle.rules.specs.declared.refusals.LineRefusal.TheVariants.{SectionUnknown, Instrument}
-use Rattle.rules.specs.declared.signals.BlockSignal.TheVariants.{Closed, Open, Fallen}
-use Rattle.rules.specs.declared.signals.HomeSignal.{HomeSignal}
+use Rattle.rules.specs.declared.signals.BlockSignal.TheVariants.{Closed, Open}
 use Rattle.rules.specs.declared.signals.HomeSignal.TheVariants.{Shut, Open as HomeOpen}
 use Rattle.rules.specs.declared.signals.SectionState.{SectionState}
 use Rattle.trains.specs.declared.places.Place.{Place}
 use Rattle.trains.specs.declared.places.Place.TheVariants.{AtPost, Running, OnPedal}
-use Rattle.turn.specs.Law.{Inside, Accepted, Unmoved, Brought}
+use Rattle.turn.specs.Law.{Accepted, Unmoved, Brought}
 use Rattle.turn.specs.Rows.{row_of, unsealing, seals_of}
 use Rattle.turn.specs.Telling.{inside_at}
-use Rattle.turn.specs.Turn.{TurnState, full, no_seal_row, turn_refusal, worked, step, run}
+use Rattle.turn.specs.Turn.{TurnState, no_seal_row, turn_refusal, worked, run}
 use Rattle.turn.proofs.Decode.{Pass, unpassed, accepted}
 use Rattle.turn.proofs.Apart.{apart}
 use Rattle.turn.proofs.Good.{Good, Kept, phases_length}
 use Rattle.turn.proofs.Inversions.{own_way}
-use Rattle.turn.proofs.Keeps.{standing, open_signal, close_signal, return_release, open_home, shut_home, clear_section, unseal_section, restore_section}
+use Rattle.turn.proofs.Keeps.{open_signal, close_signal, return_release, open_home, shut_home, clear_section, unseal_section, restore_section}
 use Rattle.turn.proofs.Moves.{moved_other, reach, leave}
-use Rattle.turn.proofs.Runs.{Admitted, admits, stepped}
-use Rattle.turn.proofs.Signals.{home_changed, home_beside_block, home_beside_pedal}
-use Rattle.turn.proofs.Standing.{Standing}
+use Rattle.turn.proofs.Runs.{admits, stepped}
+use Rattle.turn.proofs.Signals.{home_changed, home_beside_block}
 use Rattle.turn.proofs.Tables.{any_some}
-use Rattle.turn.proofs.Tests.{none_some, some_same, true_false}
+use Rattle.turn.proofs.Tests.{none_some, true_false}
 use Rattle.turn.proofs.Ways.{Past, Use, unused, running, pressing, gone, Lever, pulled, put_back, returned, Way, rest, given, held, cleared, phase_of, signal_of, block_of, pedal_of, inside_of}
 
 -- how many calls are left, from the way in which the section stands and whether its home signal is open

@@ -1,7 +1,6 @@
 -- Every turn is in good order: a new one is, and every call keeps it so.
-use Rattle.std.proofs.Common.{◌≡◌, ℕ, zero, suc, ◌+◌, ◌<◌, ◌≤◌, Bool, true, false, cond, not, List, [], ◌∷◌, ◌++◌, length, get_or, replicate, Some, None, Option, sym, refl, ap, ◌∙◌, subst, arith}
+use Rattle.std.proofs.Common.{◌≡◌, ℕ, zero, suc, ◌≤◌, Bool, true, false, cond, not, List, [], ◌∷◌, get_or, replicate, Some, None, Option, sym, refl, ap, ◌∙◌, subst, arith}
 use lib.ListN.{length-replicate}
-use Rattle.block.specs.Meaning.{phase_at}
 use Rattle.block.specs.Order.{leaves}
 use Rattle.block.specs.declared.order.Action.{Action}
 use Rattle.block.specs.declared.order.Action.TheVariants.{Give, Open as OpenAction, Return, Clear, Restore}
@@ -10,7 +9,6 @@ use Rattle.block.specs.declared.order.Direction.TheVariants.{Up, Down}
 use Rattle.block.specs.declared.order.Phase.TheVariants.{Rest}
 use Rattle.block.proofs.Steps as steps
 use Rattle.std.specs.Option.{option_map}
-use Rattle.rules.specs.Calls.{direction_of}
 use Rattle.rules.specs.Checks.{refusal, refused_if, instrument_refuses}
 use Rattle.rules.specs.State.{section_at, block_signal, is_closed, is_open, idle}
 use Rattle.trains.specs.Trains.{free, place_of, is_inside, occupied}
@@ -19,8 +17,6 @@ use Rattle.rules.specs.declared.calls.Call.TheVariants.{PlaceTrain, WithdrawTrai
 use Rattle.rules.specs.declared.refusals.LineRefusal.{LineRefusal}
 use Rattle.rules.specs.declared.refusals.LineRefusal.TheVariants.{BlockSignalWrong}
 use Rattle.rules.specs.declared.signals.BlockSignal.TheVariants.{Closed}
-use Rattle.trains.specs.declared.places.Place.{Place}
-use Rattle.trains.specs.declared.places.Place.TheVariants.{Running, OnPedal}
 use Rattle.turn.specs.Alike.{copies}
 use Rattle.turn.specs.Telling.{inside_at}
 use Rattle.turn.specs.Rows.{unsealing}
@@ -32,11 +28,10 @@ use Rattle.turn.proofs.Good.{Good}
 use Rattle.turn.proofs.Inversions.{is_rest, is_given, is_cleared, is_returned, is_put_back, is_pulled, is_ready, is_running, is_pressing_there, is_gone, is_unused, runs_there, presses_there, departs_there}
 use Rattle.turn.proofs.Keeps.{give, open_signal, close_signal, return_release, open_home, shut_home, clear_section, unseal_section, restore_section}
 use Rattle.turn.proofs.Moves.{running_at, pressing_at, enter, reach, leave, place_train, withdraw_train}
-use Rattle.turn.proofs.Standing.{Standing}
 use Rattle.turn.proofs.Tables.{any_from}
 use Rattle.turn.proofs.Tests.{none_some, true_false, not_false}
 use Rattle.turn.proofs.Trips.{Trip}
-use Rattle.turn.proofs.Ways.{never, rest, phase_of, block_of, pedal_of, inside_of, use_inside, held, returned}
+use Rattle.turn.proofs.Ways.{never, rest, phase_of, pedal_of, inside_of, use_inside, held, returned}
 
 module _ (t : TurnState) (g : Good t) where
   -- the phase that an action found tells of the way

@@ -1,5 +1,5 @@
 -- Signals and pedal marks after one of them is changed.
-use Rattle.std.proofs.Common.{◌≡◌, Bool, true, false, cond, refl}
+use Rattle.std.proofs.Common.{◌≡◌, Bool, cond, refl}
 use Rattle.block.specs.Order.{same_direction}
 use Rattle.block.specs.declared.order.Direction.{Direction}
 use Rattle.block.specs.declared.order.Direction.TheVariants.{Up, Down}

@@ -1,5 +1,5 @@
 -- A section stands in a way: what that says of its phase, its signals, the trains, and the rows of the register.
-use Rattle.std.proofs.Common.{◌≡◌, ℕ, suc, ◌+◌, ◌<◌, ◌≤◌, Bool, true, false, cond, ◌&&◌, eqb, List, [], ◌∷◌, ◌++◌, length, Some, None, Option, sym, refl, ap, ◌∙◌, subst, arith, eq-eqb, ne_eqb}
+use Rattle.std.proofs.Common.{◌≡◌, ℕ, suc, ◌+◌, Bool, true, false, cond, ◌&&◌, eqb, List, [], ◌∷◌, ◌++◌, length, Some, None, Option, sym, refl, ap, ◌∙◌, subst, arith, eq-eqb, ne_eqb}
 use Rattle.std.proofs.lemmas.Bool.{and_right}
 use Rattle.std.proofs.lemmas.List.{length_push}
 use Rattle.block.specs.declared.order.Direction.{Direction}
@@ -12,8 +12,7 @@ use Rattle.turn.specs.Telling.{inside_at}
 use Rattle.turn.specs.declared.rows.Kind.{Kind}
 use Rattle.turn.specs.declared.rows.Kind.TheVariants.{Giving, Leaving, Unsealing}
 use Rattle.turn.specs.declared.rows.RegisterRow.{RegisterRow}
-use Rattle.turn.proofs.Tests.{some_same}
-use Rattle.turn.proofs.Trails.{bearing, Falling, Trail, falling_more, trail_past}
+use Rattle.turn.proofs.Trails.{Falling, Trail, falling_more, trail_past}
 use Rattle.turn.proofs.Ways.{Way, phase_of, block_of, pedal_of, inside_of, owed, marks_of}
 
 pub record Standing (phase : Phase) (section : SectionState) (place : ℕ → Option Place) (rows : List RegisterRow) (k : ℕ) (w : Way) : Type 0 where

@@ -1,10 +1,10 @@
 -- The table of trains after one record of it is changed.
-use Rattle.std.proofs.Common.{◌≡◌, ℕ, suc, ◌+◌, ◌≤◌, Bool, true, false, cond, ◌||◌, eqb, List, [], ◌∷◌, Some, None, Option, sym, refl, ap, ◌∙◌, subst, arith, eq-eqb, ne_eqb, eqb-true}
+use Rattle.std.proofs.Common.{◌≡◌, ℕ, suc, ◌+◌, ◌≤◌, Bool, true, false, cond, ◌||◌, eqb, List, [], ◌∷◌, Some, None, Option, sym, refl, ap, ◌∙◌, arith, eq-eqb, ne_eqb, eqb-true}
 use Rattle.trains.specs.Trains.{free, taken, holds_number, is_free, bears, place_in, place_of, any, put_first}
 use Rattle.trains.specs.declared.places.Place.{Place}
 use Rattle.trains.specs.declared.places.Train.{Train}
 use Rattle.trains.specs.declared.places.TrainRecord.{TrainRecord}
-use Rattle.turn.specs.Alike.{copies, vacancies, Once}
+use Rattle.turn.specs.Alike.{copies, Once}
 use Rattle.turn.proofs.Tests.{none_some, true_false}
 
 -- a record holds one train at the most

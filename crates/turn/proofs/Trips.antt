@@ -1,11 +1,9 @@
 -- The trips of a train: every entry of its is followed by a leaving, but for one while it is inside a section.
-use Rattle.std.proofs.Common.{◌≡◌, ℕ, suc, ◌<◌, ◌≤◌, Bool, true, false, ◌⊎◌, List, [], ◌∷◌, ◌++◌, length, Some, None, Option, sym, refl, ap, ◌∙◌, subst, inl, inr, ⊎_elim, arith}
+use Rattle.std.proofs.Common.{◌≡◌, ℕ, ◌<◌, ◌⊎◌, List, [], ◌∷◌, ◌++◌, length, Some, None, Option, sym, ap, ◌∙◌, subst, inl, inr, ⊎_elim, arith}
 use Rattle.block.specs.declared.order.Direction.{Direction}
 use Rattle.std.specs.List.{slice_get}
 use Rattle.trains.specs.declared.places.Place.{Place}
 use Rattle.trains.specs.declared.places.Place.TheVariants.{AtPost, Running, OnPedal}
-use Rattle.turn.specs.Telling.{ToldOf}
-use Rattle.turn.specs.declared.rows.Kind.{Kind}
 use Rattle.turn.specs.declared.rows.Kind.TheVariants.{Entry, Leaving}
 use Rattle.turn.specs.declared.rows.RegisterRow.{RegisterRow}
 use Rattle.turn.proofs.Places.{below, newest, older, either}

@@ -7,9 +7,9 @@ use Rattle.block.specs.declared.order.Phase.TheVariants.{Rest, Given, Opened, Re
 use Rattle.rules.specs.declared.signals.BlockSignal.{BlockSignal}
 use Rattle.rules.specs.declared.signals.BlockSignal.TheVariants.{Closed, Open, Fallen}
 use Rattle.trains.specs.declared.places.Place.{Place}
-use Rattle.trains.specs.declared.places.Place.TheVariants.{AtPost, Running, OnPedal}
+use Rattle.trains.specs.declared.places.Place.TheVariants.{Running, OnPedal}
 use Rattle.turn.specs.declared.rows.Kind.{Kind}
-use Rattle.turn.specs.declared.rows.Kind.TheVariants.{Giving, Opening, Entry, Leaving, Clearing, Unsealing}
+use Rattle.turn.specs.declared.rows.Kind.TheVariants.{Giving, Opening, Leaving, Clearing, Unsealing}
 use Rattle.turn.specs.declared.rows.RegisterRow.{RegisterRow}
 use Rattle.turn.proofs.Trails.{Mark}
 use Rattle.turn.proofs.Trips.{entry_row}

@@ -1,5 +1,5 @@
 -- The rows of the two books: which row a call makes, its values as numbers, and the tally.
-use Rattle.std.specs.Prelude.{ℕ, suc, ◌+◌, Bool, true, false, cond, ◌&&◌, List, [], ◌∷◌, Some, None, Option, ◌==◌}
+use Rattle.std.specs.Prelude.{ℕ, ◌+◌, Bool, false, cond, ◌&&◌, List, [], ◌∷◌, Some, None, Option, ◌==◌}
 use Rattle.block.specs.Order.{direction_code}
 use Rattle.block.specs.declared.order.Direction.{Direction}
 use Rattle.rules.specs.Calls.{train_of, section_of, direction_of, post_of}

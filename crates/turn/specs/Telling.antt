@@ -1,5 +1,5 @@
 -- Words of the law: what a row of the register tells, by its place.
-use Rattle.std.specs.Prelude.{◌≡◌, ℕ, suc, Bool, true, false, cond, List, [], ◌∷◌, ◌++◌, Some, None, Option}
+use Rattle.std.specs.Prelude.{◌≡◌, ℕ, suc, cond, List, [], ◌∷◌, ◌++◌, Some, None, Option}
 use Rattle.block.specs.declared.order.Direction.{Direction}
 use Rattle.std.specs.List.{slice_get}
 use Rattle.trains.specs.Trains.{is_inside}

@@ -1,5 +1,5 @@
 -- A turn: one line and two books; one call of it; and a run of calls.
-use Rattle.std.specs.Prelude.{ℕ, Bool, true, false, cond, List, [], ◌∷◌, ◌++◌, length, Some, None, Ok, Err, Option, Result, nat_le}
+use Rattle.std.specs.Prelude.{ℕ, Bool, false, cond, List, [], ◌∷◌, ◌++◌, length, Some, None, Ok, Err, Option, Result, nat_le}
 use Rattle.block.specs.declared.order.Direction.{Direction}
 use Rattle.std.specs.Option.{option_map}
 use Rattle.rules.specs.Checks.{refusal}

@@ -1,5 +1,5 @@
 -- A turn, read off a line and two books.
-use Rattle.std.specs.Prelude.{◌≡◌, ℕ, ◌≤◌, cond, List, [], ◌∷◌, length, Some, None, Option, Result}
+use Rattle.std.specs.Prelude.{◌≡◌, ℕ, ◌≤◌, cond, List, [], ◌∷◌, length, Some, None, Option}
 use Rattle.block.specs.declared.order.Phase.{Phase}
 use Rattle.book.specs.Entered.{entered}
 use Rattle.book.specs.declared.Book as lent
@@ -10,7 +10,7 @@ use Rattle.line.specs.declared.lines.Line.{Line}
 use Rattle.rules.specs.declared.slips.SealRow.{SealRow}
 use Rattle.rules.specs.declared.slips.Slip.{Slip}
 use Rattle.turn.specs.Rows.{unsealing}
-use Rattle.turn.specs.Turn.{Book, full, TurnState, new_turn, no_seal_row, answer_of}
+use Rattle.turn.specs.Turn.{Book, full, TurnState, new_turn, no_seal_row}
 use Rattle.turn.specs.declared.refusals.TurnRefusal.{TurnRefusal}
 use Rattle.turn.specs.declared.refusals.TurnRefusal.TheVariants.{RegisterFull, SealBookFull}
 use Rattle.turn.specs.declared.rows.RegisterRow.{RegisterRow}

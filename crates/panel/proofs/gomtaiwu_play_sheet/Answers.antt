@@ -1,4 +1,4 @@
-use Rattle.std.proofs.Common.{◌≡◌, ℕ, ◌<◌, List, length, pos, Ok, Err, Result, sym, refl, ap, ◌∙◌, arith, rules}
+use Rattle.std.proofs.Common.{◌≡◌, ℕ, ◌<◌, List, length, pos, Ok, Err, Result, ap, ◌∙◌, arith, rules}
 use Rattle.answers.specs.declared.refusals.SheetRefusal.{SheetRefusal}
 use Rattle.panel.specs.Numbers.{panel_number}
 use Rattle.sheet.specs.Sheets.{sheet_answer, answer_length}

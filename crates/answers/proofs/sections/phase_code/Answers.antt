@@ -1,9 +1,8 @@
-use Rattle.std.proofs.Common.{◌≡◌, ℕ, sym, refl, ap, ◌∙◌, arith}
+use Rattle.std.proofs.Common.{◌≡◌, ℕ, sym, ap, ◌∙◌, arith}
 use Rattle.answers.proofs.TextParts.{phase_found}
 use Rattle.block.specs.Meaning.{phase_at}
 use Rattle.block.specs.Order.{phase_code}
 use Rattle.line.specs.Lines.{state}
-use Rattle.answers.proofs.sections.phase_code.Given as given
 use Rattle.answers.proofs.sections.phase_code.Goals as goal
 
 pub unreachable-requires : goal.unreachable-requires

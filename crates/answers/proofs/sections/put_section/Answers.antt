@@ -1,4 +1,4 @@
-use Rattle.std.proofs.Common.{◌≡◌, ℕ, List, [], ◌∷◌, ◌++◌, unwrap_or, sym, refl, ap, ◌∙◌, arith}
+use Rattle.std.proofs.Common.{◌≡◌, ℕ, List, [], ◌∷◌, ◌++◌, unwrap_or, sym, ap, ◌∙◌, arith}
 use Rattle.answers.proofs.Bounds.{section_short}
 use Rattle.answers.proofs.Chains.{field, with_fields, fields_after}
 use Rattle.answers.proofs.TextParts.{section_values, one_section}
@@ -8,7 +8,6 @@ use Rattle.reading.specs.Written.{line_feed}
 use Rattle.turn.specs.Turns.{book_of}
 use Rattle.writing.specs.Facts.{wrote_then}
 use Rattle.writing.specs.Pens.{pen_of, wrote}
-use Rattle.answers.proofs.sections.put_section.Given as given
 use Rattle.answers.proofs.sections.put_section.Goals as goal
 
 pub returns : goal.returns

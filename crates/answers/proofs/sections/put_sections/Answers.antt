@@ -6,7 +6,6 @@ use Rattle.rules.specs.State.{count}
 use Rattle.turn.specs.Turns.{book_of}
 use Rattle.writing.specs.Facts.{wrote_then, wrote_nothing}
 use Rattle.writing.specs.Pens.{pen_of, wrote}
-use Rattle.answers.proofs.sections.put_sections.Given as given
 use Rattle.answers.proofs.sections.put_sections.Goals as goal
 
 pub loop-section-init : goal.loop-section-init

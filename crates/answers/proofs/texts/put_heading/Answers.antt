@@ -1,4 +1,4 @@
-use Rattle.std.proofs.Common.{◌≡◌, ℕ, List, [], ◌∷◌, ◌++◌, ap, ◌∙◌}
+use Rattle.std.proofs.Common.{ℕ, List, [], ◌∷◌, ◌++◌, ap, ◌∙◌}
 use Rattle.answers.proofs.Chains.{field, with_fields, fields_after}
 use Rattle.reading.specs.Written.{line_feed}
 use Rattle.writing.specs.Facts.{wrote_then}

@@ -1,4 +1,4 @@
-use Rattle.std.proofs.Common.{◌≡◌, ℕ, List, [], ◌∷◌, ◌++◌, decimal, sym, refl, ap, ◌∙◌, append_assoc, append-nil}
+use Rattle.std.proofs.Common.{ℕ, List, [], ◌∷◌, ◌++◌, decimal, sym, ap, ◌∙◌}
 use Rattle.answers.proofs.Chains.{field, refused_line, refused_whole}
 use Rattle.answers.proofs.TextParts.{line_text, whole_text}
 use Rattle.answers.specs.Numbers.{refusal_values}

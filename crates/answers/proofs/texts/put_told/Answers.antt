@@ -1,4 +1,4 @@
-use Rattle.std.proofs.Common.{◌≡◌, ℕ, List, [], ◌∷◌, ◌++◌, decimal, sym, refl, ap, ◌∙◌}
+use Rattle.std.proofs.Common.{ℕ, List, [], ◌∷◌, decimal, sym, ap, ◌∙◌}
 use Rattle.answers.specs.Texts.{told_text}
 use Rattle.writing.specs.Facts.{wrote_then}
 use Rattle.writing.specs.Pens.{pen_of, wrote}

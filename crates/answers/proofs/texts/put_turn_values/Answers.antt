@@ -1,4 +1,4 @@
-use Rattle.std.proofs.Common.{◌≡◌, sym, refl, ap, ◌∙◌}
+use Rattle.std.proofs.Common.{sym, refl, ap, ◌∙◌}
 use Rattle.answers.proofs.Valueless.{turn_valueless}
 use Rattle.answers.specs.Texts.{fields_of}
 use Rattle.writing.specs.Facts.{wrote_nothing}

@@ -1,4 +1,4 @@
-use Rattle.std.proofs.Common.{length, take, sym, ap, ◌∙◌, arith}
+use Rattle.std.proofs.Common.{arith}
 use Rattle.book.proofs.Fronts.{take_within}
 use Rattle.book.proofs.Book.filled.Goals as goal
 

@@ -1,11 +1,11 @@
-use Rattle.std.proofs.Common.{sym, refl, ap, ◌∙◌}
+use Rattle.std.proofs.Common.{rules, sym, ap, ◌∙◌}
 use Rattle.std.specs.List.{slice_get}
 use Rattle.std.proofs.lemmas.Option.{slice_get_read, slice_get_past}
 use Rattle.book.proofs.Book.row.Goals as goal
 
 pub returns-then-place-rows : goal.returns-then-place-rows
 returns-then-place-rows g c =
-    sym (ap (λ xs. slice_get xs c.args.place) (sym c.filled-rows.ensures) ∙ slice_get_read _ _ c.args.place _ refl c.if-place-rows.true c.index-rows-place.is)
+    sym (ap (λ xs. slice_get xs c.args.place) (sym c.filled-rows.ensures) ∙ search (rules, slice_get_read))
 
 pub returns-else-place-rows : goal.returns-else-place-rows
 returns-else-place-rows g c =

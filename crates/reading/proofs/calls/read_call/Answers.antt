@@ -1,4 +1,4 @@
-use Rattle.std.proofs.Common.{length, Some, None, Ok, Err, Option}
+use Rattle.std.proofs.Common.{length, Some, None, Ok, Err}
 use Rattle.reading.specs.Grammar.{call_line}
 use Rattle.reading.proofs.WholeLines.{from_start, nothing_read, wholly_read, partly_read, lawful}
 use Rattle.reading.proofs.calls.read_call.Goals as goal

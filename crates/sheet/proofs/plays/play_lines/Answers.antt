@@ -1,4 +1,4 @@
-use Rattle.std.proofs.Common.{◌≡◌, ◌+◌, ◌∷◌, length, sym, refl, ap, ◌∙◌, arith}
+use Rattle.std.proofs.Common.{◌≡◌, ◌+◌, length, sym, refl, ap, ◌∙◌, arith}
 use Rattle.reading.proofs.Cutting.{few_lines}
 use Rattle.reading.specs.Lines.{lines}
 use Rattle.turn.proofs.Playing.{lawful}
@@ -7,7 +7,6 @@ use Rattle.turn.specs.Turns.{turn_of}
 use Rattle.writing.specs.Pens.{pen_of, wrote}
 use Rattle.sheet.specs.Played.{readable, line_answers}
 use Rattle.sheet.proofs.Playing.{opened, ended, run_on, answers_on, wrote_all}
-use Rattle.sheet.proofs.plays.play_lines.Given as given
 use Rattle.sheet.proofs.plays.play_lines.Goals as goal
 
 pub overflow_add-number : goal.overflow_add-number

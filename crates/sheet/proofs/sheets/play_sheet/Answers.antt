@@ -1,6 +1,5 @@
-use Rattle.std.proofs.Common.{◌≡◌, ℕ, ◌<◌, ◌≤◌, length, Some, None, Ok, Err, sym, refl, ap, ◌∙◌, subst, arith, rules}
+use Rattle.std.proofs.Common.{◌<◌, ◌≤◌, length, Ok, sym, ap, ◌∙◌, subst, arith, rules}
 use Rattle.reading.specs.Lines.{lines}
-use Rattle.answers.specs.declared.refusals.SheetRefusal.TheVariants.{TooLong, BadHeading, ShortBuffer}
 use Rattle.writing.specs.Pens.{pen_of, wrote}
 use Rattle.sheet.specs.Sheets.{played_text, least_room, answer_length, answered_buffer}
 use Rattle.sheet.proofs.Answering.{too_many_bytes, too_many_lines, too_little_room, left_to_heading, no_line, no_heading, good_heading, sheet_law, written_count, written_bytes}

@@ -1,18 +1,15 @@
-use Rattle.std.proofs.Common.{◌≡◌, ℕ, ◌<◌, ◌≤◌, List, [], ◌++◌, length, sym, refl, ap, ◌∙◌, arith}
+use Rattle.std.proofs.Common.{◌≡◌, ◌++◌, length, refl, ap, ◌∙◌, arith}
 use Rattle.answers.specs.Texts.{heading_text}
-use Rattle.line.specs.Lines.{state}
 use Rattle.reading.specs.Lines.{lines}
-use Rattle.rules.specs.State.{count}
 use Rattle.turn.proofs.Playing.{lawful}
-use Rattle.turn.specs.Turn.{TurnState, run}
-use Rattle.turn.specs.Turns.{turn_of, book_of}
+use Rattle.turn.specs.Turn.{run}
+use Rattle.turn.specs.Turns.{turn_of}
 use Rattle.writing.specs.Facts.{wrote_then}
 use Rattle.writing.specs.Pens.{pen_of, wrote}
 use Rattle.sheet.specs.Played.{readable, line_answers}
-use Rattle.sheet.specs.Sheets.{first_turn, end_text, played_text}
+use Rattle.sheet.specs.Sheets.{first_turn, end_text}
 use Rattle.sheet.proofs.Beginning.{made_new, begins_new, empty_book, few_rows}
 use Rattle.sheet.proofs.Lengths.{run_room, played_short, whole_text}
-use Rattle.sheet.proofs.turns.play_over.Given as given
 use Rattle.sheet.proofs.turns.play_over.Goals as goal
 
 pub returns : goal.returns

@@ -2,7 +2,6 @@ use Rattle.std.proofs.Common.{◌<◌, ◌≤◌, ◌++◌, length, take, sym, a
 use Rattle.turn.specs.Turn.{run, answers}
 use Rattle.turn.specs.Turns.{turn_of}
 use Rattle.turn.proofs.Playing.{run_on, answers_on, rest_on, played_out, joined, lawful}
-use Rattle.turn.proofs.plays.play.Given as given
 use Rattle.turn.proofs.plays.play.Goals as goal
 
 pub loop-i-preserved : goal.loop-i-preserved

@@ -1,4 +1,4 @@
-use Rattle.std.proofs.Common.{◌≡◌, ◌++◌, length, take, drop}
+use Rattle.std.proofs.Common.{◌≡◌, ◌++◌, take, drop}
 use Rattle.turn.specs.Turn.{run, answers}
 use Rattle.turn.specs.Turns.{turn_of}
 use Rattle.turn.proofs.plays.play.Given as goal

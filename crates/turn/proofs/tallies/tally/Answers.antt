@@ -1,4 +1,4 @@
-use Rattle.std.proofs.Common.{cond, sym, ap, ◌∙◌, arith}
+use Rattle.std.proofs.Common.{cond, ap, ◌∙◌, arith}
 use Rattle.turn.specs.Rows.{tally}
 use Rattle.turn.specs.declared.rows.Kind.TheVariants.{Giving, Leaving, Unsealing}
 use Rattle.turn.proofs.Counting.{counted, all_counted}

@@ -1,15 +1,12 @@
-use Rattle.std.proofs.Common.{◌≡◌, [], ◌∷◌, ◌++◌, length, is_some, Some, None, Ok, Err, sym, refl, ap, ◌∙◌}
+use Rattle.std.proofs.Common.{[], ◌∷◌, ◌++◌, length, is_some, Err, sym, ap, ◌∙◌}
 use Rattle.std.proofs.lemmas.Result.{err_from_is_err_and}
 use Rattle.std.specs.Option.{option_map}
-use Rattle.rules.specs.Checks.{refusal}
-use Rattle.rules.specs.Slips.{slip_of}
 use Rattle.line.proofs.Parts.{after_refused, after_accepted}
-use Rattle.turn.specs.Turn.{turn_refusal, answer_of, step}
-use Rattle.turn.specs.Turns.{book_of, turn_of, slip_rows}
+use Rattle.turn.specs.Turn.{answer_of}
+use Rattle.turn.specs.Turns.{turn_of, slip_rows}
 use Rattle.turn.specs.declared.refusals.TurnRefusal.TheVariants.{Line}
 use Rattle.turn.proofs.Calls.{admitted_err, admitted_ok, line_err, line_ok, not_admitted, left_to_line, has_room, slip_room, slip_row}
 use Rattle.turn.proofs.Runs.{stepped, stayed}
-use Rattle.turn.proofs.turns.work.Given as given
 use Rattle.turn.proofs.turns.work.Goals as goal
 
 pub returns-in_err-admit : goal.returns-in_err-admit

@@ -1,4 +1,4 @@
-use Rattle.std.proofs.Common.{◌≡◌, Some, None, Ok, Err, sym, refl, ap, ◌∙◌}
+use Rattle.std.proofs.Common.{◌≡◌, None, Ok, Err, rules, sym, ap, ◌∙◌}
 use Rattle.std.proofs.lemmas.Result.{err_from_is_err_and}
 use Rattle.rules.specs.Calls.{section_of, direction_of, action_of}
 use Rattle.rules.specs.Checks.{refusal}
@@ -8,7 +8,6 @@ use Rattle.rules.specs.Slips.{slip_of}
 use Rattle.rules.specs.State.{LineState}
 use Rattle.line.specs.Working.{with_phases}
 use Rattle.line.proofs.Parts.{refused_unfit, refused_own, left_to_ask, after_refused, after_accepted, asked_in_vain, told_ok, told_err}
-use Rattle.line.proofs.lines.Line.call.Given as given
 use Rattle.line.proofs.lines.Line.call.Goals as goal
 
 pub returns-in-Some : goal.returns-in-Some
@@ -65,7 +64,8 @@ returns g c =
     then.trains ∙ ap (λ x. trains_effect call c.direction_of-way.result x.records) first.trains
     ∙ ap (λ (x : LineState). trains_effect call c.direction_of-way.result x.trains) asked ∙ ap (λ o. trains_effect call o s.trains) way
     in
+    let slip_told : _ ≡ Ok (slip_of call) = search rules in
     record {
-      answered = ap Ok c.of.ensures ∙ sym (ap (λ o. answered o (slip_of call)) accepted);
+      answered = slip_told ∙ sym (ap (λ o. answered o (slip_of call)) accepted);
       followed = (λ i. record { condition = condition i; phases = phases i; sections = sections i; trains = trains i }) ∙ sym (after_accepted s call accepted);
     }

@@ -1,5 +1,5 @@
-use Rattle.std.proofs.Common.{◌≡◌, ℕ, ◌<◌, List, [], ◌∷◌, length, take, drop, Some, sym, refl, ap, ◌∙◌, arith, true-eqb, false-eqb}
-use Rattle.reading.specs.Lines.{lines, line_length, first_line, other_lines}
+use Rattle.std.proofs.Common.{◌<◌, length, take, drop, Some, sym, ap, ◌∙◌, arith, true-eqb, false-eqb}
+use Rattle.reading.specs.Lines.{lines, first_line, other_lines}
 use Rattle.reading.proofs.Cutting.{split, within, nothing_left}
 use Rattle.reading.proofs.lines.Lines.next.Goals as goal
 

@@ -1,11 +1,11 @@
-use Rattle.std.proofs.Common.{◌≡◌, ℕ, drop, Some, None, Option, sym, refl, ap, ◌∙◌, subst}
+use Rattle.std.proofs.Common.{◌≡◌, ℕ, drop, Some, None, Option, sym, refl, ap, ◌∙◌}
 use Rattle.std.specs.Option.{option_map as mapped-option}
 use Rattle.reading.specs.Grammar.{exactly}
 use Rattle.reading.specs.Headings.{heading_letter}
 use Rattle.reading.specs.Outcomes.{both}
 use Rattle.reading.specs.Readers.{two_numbers}
 use Rattle.reading.specs.Written.{space}
-use Rattle.reading.proofs.Strides.{Strides, goes, stops, mapping}
+use Rattle.reading.proofs.Strides.{goes, stops, mapping}
 use Rattle.reading.proofs.reader.Reader.heading.Goals as goal
 
 -- the two numbers, out of what is read

@@ -1,4 +1,4 @@
-use Rattle.std.proofs.Common.{◌≡◌, ℕ, ◌+◌, ◌-◌, ◌*◌, ◌<◌, length, drop, sym, refl, ap, ◌∙◌, subst, arith}
+use Rattle.std.proofs.Common.{◌≡◌, ◌+◌, ◌*◌, length, drop, sym, ap, ◌∙◌, subst, arith}
 use Rattle.reading.specs.Outcomes.{Got, Stuck, moved, value_got}
 use Rattle.reading.specs.Grammar.{more_digits, digit}
 use Rattle.reading.proofs.Facing.{exactly_over, exactly_stays, digit_over, digit_stays, digit_within, more_closes, more_no_digit, more_full, full_from, grow_from, some_of, none_of, ended, again}

@@ -1,4 +1,4 @@
-use Rattle.std.proofs.Common.{None, sym, ap, ◌∙◌}
+use Rattle.std.proofs.Common.{None, sym, ◌∙◌}
 use Rattle.trains.specs.Trains.{free, bears, place_in}
 use Rattle.trains.proofs.Searches.{looked_found, looked_none}
 use Rattle.trains.proofs.table.TrainTable.place_of.Goals as goal
