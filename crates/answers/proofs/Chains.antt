@@ -6,14 +6,10 @@ use Rattle.answers.specs.Texts.{fields_of, refused}
 abbrev pub field : ℕ → List ℕ
 field n = space ∷ decimal n
 
--- the text, and then each number as a field
-abbrev pub with_fields : List ℕ → List ℕ → List ℕ
-with_fields text [] = text
-with_fields text (n ∷ ns) = with_fields (text ++ field n) ns
-
-pub fields_after : (text ns : List ℕ) → with_fields text ns ≡ text ++ fields_of ns
-fields_after text [] = sym (append-nil text)
-fields_after text (n ∷ ns) = fields_after (text ++ field n) ns ∙ append_assoc text (field n) (fields_of ns)
+-- one field more
+pub fields_last : (ns : List ℕ) (n : ℕ) → fields_of ns ++ field n ≡ fields_of (ns ++ n ∷ [])
+fields_last [] n = sym (append-nil (field n))
+fields_last (m ∷ ns) n = append_assoc (field m) (fields_of ns) (field n) ∙ ap (λ l. field m ++ l) (fields_last ns n)
 
 -- a refusal, as it is written piece by piece
 pub refused_line : (n number : ℕ) (values : List ℕ)

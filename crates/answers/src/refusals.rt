@@ -31,6 +31,7 @@ pub enum SheetRefusal {
 }
 
 impl SheetLineRefusal {
+    // The number that an answer tells.
     pub fn number(self) -> u16
         ensures { result ≡ line_refusal_number self }
     {
@@ -42,6 +43,7 @@ impl SheetLineRefusal {
 }
 
 impl SheetRefusal {
+    // The number that an answer tells.
     pub fn number(self) -> u16
         ensures { result ≡ sheet_number self }
     {
@@ -54,6 +56,7 @@ impl SheetRefusal {
     }
 }
 
+// Written out and not derived, as the next: a derive would not promise which case it makes.
 impl From<TurnRefusal> for SheetLineRefusal {
     ghost from_gives = { λ e r. r ≡ Turn e };
 

@@ -2,7 +2,7 @@
 ghost use Rattle.std.specs.Prelude.{◌≡◌, length};
 ghost use Rattle.answers.specs.Numbers.{found_values, line_values, turn_values, refusal_values};
 ghost use Rattle.answers.specs.Texts.{fields_of, heading_text, refusal_text, told_text};
-ghost use Rattle.writing.specs.Pens.{pen_of, wrote};
+ghost use Rattle.writing.specs.Pens.{Writes};
 
 use crate::refusals::{SheetLineRefusal, SheetRefusal};
 use block::refusals::InstrumentRefusal;
@@ -12,55 +12,60 @@ use rules::refusals::LineRefusal;
 use turn::refusals::TurnRefusal;
 use writing::{put, put_field, put_number, put_text};
 
+// Each number as a field of its own.
+pub(crate) fn put_fields(answer: &mut Book<'_, u8>, numbers: &[usize])
+    ensures { Writes (fields_of numbers.now) answer.old answer.new }
+{
+    for n in numbers {
+        put_field(answer, *n);
+    }
+}
+
 // The first line of an answer.
 pub fn put_heading(answer: &mut Book<'_, u8>, heading: Heading)
-    ensures wrote { pen_of answer.new ≡ wrote (heading_text heading) (pen_of answer.old) }
-    ensures lender { answer.new.rows.ghost_name ≡ answer.old.rows.ghost_name }
+    ensures { Writes (heading_text heading) answer.old answer.new }
 {
     put_text(answer, b"turn");
-    put_field(answer, heading.sections as usize);
-    put_field(answer, heading.interlocked as usize);
+    put_fields(
+        answer,
+        &[heading.sections as usize, heading.interlocked as usize],
+    );
     put(answer, b'\n');
 }
 
 // The section and the phase found, where the instrument has that section.
 fn put_found(answer: &mut Book<'_, u8>, refusal: InstrumentRefusal)
-    ensures wrote { pen_of answer.new ≡ wrote (fields_of (found_values refusal)) (pen_of answer.old) }
-    ensures lender { answer.new.rows.ghost_name ≡ answer.old.rows.ghost_name }
+    ensures { Writes (fields_of (found_values refusal)) answer.old answer.new }
 {
     match refusal {
         InstrumentRefusal::NoSection { .. } => {}
-        found => {
-            put_field(answer, found.section() as usize);
-            put_field(answer, found.phase_code() as usize);
-        }
+        found => put_fields(
+            answer,
+            &[found.section() as usize, found.phase_code() as usize],
+        ),
     }
 }
 
+// One refusal opens the next: of the last arm of a nested pattern a proof does not know what it is not.
 fn put_line_values(answer: &mut Book<'_, u8>, refusal: LineRefusal)
-    ensures wrote { pen_of answer.new ≡ wrote (fields_of (line_values refusal)) (pen_of answer.old) }
-    ensures lender { answer.new.rows.ghost_name ≡ answer.old.rows.ghost_name }
+    ensures { Writes (fields_of (line_values refusal)) answer.old answer.new }
 {
-    match refusal {
-        LineRefusal::Instrument(refusal) => put_found(answer, refusal),
-        _ => {}
+    if let LineRefusal::Instrument(refusal) = refusal {
+        put_found(answer, refusal);
     }
 }
 
 fn put_turn_values(answer: &mut Book<'_, u8>, refusal: TurnRefusal)
-    ensures wrote { pen_of answer.new ≡ wrote (fields_of (turn_values refusal)) (pen_of answer.old) }
-    ensures lender { answer.new.rows.ghost_name ≡ answer.old.rows.ghost_name }
+    ensures { Writes (fields_of (turn_values refusal)) answer.old answer.new }
 {
-    match refusal {
-        TurnRefusal::Line(refusal) => put_line_values(answer, refusal),
-        _ => {}
+    if let TurnRefusal::Line(refusal) = refusal {
+        put_line_values(answer, refusal);
     }
 }
 
 // What a refusal's number does not tell.
 fn put_values(answer: &mut Book<'_, u8>, refusal: SheetLineRefusal)
-    ensures wrote { pen_of answer.new ≡ wrote (fields_of (refusal_values refusal)) (pen_of answer.old) }
-    ensures lender { answer.new.rows.ghost_name ≡ answer.old.rows.ghost_name }
+    ensures { Writes (fields_of (refusal_values refusal)) answer.old answer.new }
 {
     match refusal {
         SheetLineRefusal::Unreadable { place } => put_field(answer, place),
@@ -70,8 +75,7 @@ fn put_values(answer: &mut Book<'_, u8>, refusal: SheetLineRefusal)
 
 // A refusal: of a line with its number in front, of a whole sheet with none.
 pub fn put_refusal(answer: &mut Book<'_, u8>, refusal: SheetRefusal)
-    ensures wrote { pen_of answer.new ≡ wrote (refusal_text refusal) (pen_of answer.old) }
-    ensures lender { answer.new.rows.ghost_name ≡ answer.old.rows.ghost_name }
+    ensures { Writes (refusal_text refusal) answer.old answer.new }
 {
     match refusal {
         SheetRefusal::Line(refused) => {
@@ -90,8 +94,7 @@ pub fn put_refusal(answer: &mut Book<'_, u8>, refusal: SheetRefusal)
 
 // The answer to a line of a sheet, by the line's number.
 pub fn put_told(answer: &mut Book<'_, u8>, line: usize, told: Result<(), SheetRefusal>)
-    ensures wrote { pen_of answer.new ≡ wrote (told_text line told) (pen_of answer.old) }
-    ensures lender { answer.new.rows.ghost_name ≡ answer.old.rows.ghost_name }
+    ensures { Writes (told_text line told) answer.old answer.new }
 {
     match told {
         Ok(()) => {

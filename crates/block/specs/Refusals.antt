@@ -1,5 +1,5 @@
 -- A block instrument's refusals: the number and the values of each, and when each is given.
-use Rattle.std.specs.Prelude.{ℕ, cond, Some, None, Ok, Err, Option, Result}
+use Rattle.std.specs.Prelude.{ℕ, cond, Some, None, Ok, Err, Option, Result, nat_lt}
 use Rattle.block.specs.declared.order.Action.{Action}
 use Rattle.block.specs.declared.order.Action.TheVariants.{Give, Open, Return, Clear, Restore}
 use Rattle.block.specs.declared.order.Direction.{Direction}
@@ -50,6 +50,10 @@ told_of k (WrongPhase j d found) = WrongPhase k d found
 abbrev pub retold : {X : Type 0} → ℕ → Result X InstrumentRefusal → Result X InstrumentRefusal
 retold k (Ok x) = Ok x
 retold k (Err e) = Err (told_of k e)
+
+-- whether there is a section k among n of them, or its refusal
+abbrev pub section_check : ℕ → ℕ → Option Direction → Result (Unit {0}) InstrumentRefusal
+section_check k n asked = cond (nat_lt k n) (Ok tt) (Err (NoSection k asked))
 
 -- the refusal of an action that needs a phase of its own direction, where it found another phase
 abbrev pub out_of_order : ℕ → Direction → Phase → InstrumentRefusal

@@ -7,6 +7,9 @@ ghost use Rattle.block.specs.declared.order.Phase.{Phase};
 use crate::order::{Action, Direction, Phase};
 use crate::refusals::InstrumentRefusal;
 
+// The most sections that an instrument has; its laws say sixteen.
+pub const MOST_SECTIONS: u32 = 16;
+
 // Whatever holds one phase for each of at most sixteen sections, and answers just so.
 pub trait BlockInstrument {
     ghost phases: { Self → List Phase };
@@ -20,6 +23,7 @@ pub trait BlockInstrument {
     fn phase(&self, section: u32) -> Result<Phase, InstrumentRefusal>
         ensures { result ≡ phase_answer (phases self.now) section };
 
+    // An action, its section and its direction are three parameters and no struct: whoever calls has the three apart.
     fn operate(
         &mut self,
         action: Action,

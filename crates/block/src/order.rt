@@ -29,6 +29,7 @@ pub enum Action {
 }
 
 impl Direction {
+    // Its number wherever an answer tells it.
     pub fn code(self) -> u8
         ensures { result ≡ direction_code self }
     {
@@ -40,6 +41,7 @@ impl Direction {
 }
 
 impl Phase {
+    // Its number wherever an answer tells it.
     pub fn code(self) -> u8
         ensures { result ≡ phase_code self }
     {

@@ -1,7 +1,7 @@
 // What a block instrument says where it refuses.
 ghost use Rattle.std.specs.Prelude.{◌≡◌};
 ghost use Rattle.block.specs.Meaning.{worked};
-ghost use Rattle.block.specs.Refusals.{number, section_value, direction_value, phase_value, told_of, retold, refusal};
+ghost use Rattle.block.specs.Refusals.{number, section_value, direction_value, phase_value, told_of, retold, section_check, refusal};
 
 use crate::order::{Action, Direction, Phase};
 
@@ -33,6 +33,7 @@ pub enum InstrumentRefusal {
 }
 
 impl InstrumentRefusal {
+    // The number that an answer tells.
     pub fn number(self) -> u16
         ensures { result ≡ number self }
     {
@@ -48,10 +49,10 @@ impl InstrumentRefusal {
         ensures { result ≡ section_value self }
     {
         match self {
-            InstrumentRefusal::NoSection { section, .. } => section,
-            InstrumentRefusal::NotAtRest { section, .. } => section,
-            InstrumentRefusal::OtherDirection { section, .. } => section,
-            InstrumentRefusal::WrongPhase { section, .. } => section,
+            InstrumentRefusal::NoSection { section, .. }
+            | InstrumentRefusal::NotAtRest { section, .. }
+            | InstrumentRefusal::OtherDirection { section, .. }
+            | InstrumentRefusal::WrongPhase { section, .. } => section,
         }
     }
 
@@ -60,14 +61,10 @@ impl InstrumentRefusal {
         ensures { result ≡ direction_value self }
     {
         match self {
-            InstrumentRefusal::NoSection { asked: None, .. } => 2,
-            InstrumentRefusal::NoSection {
-                asked: Some(direction),
-                ..
-            } => direction.code(),
-            InstrumentRefusal::NotAtRest { direction, .. } => direction.code(),
-            InstrumentRefusal::OtherDirection { direction, .. } => direction.code(),
-            InstrumentRefusal::WrongPhase { direction, .. } => direction.code(),
+            InstrumentRefusal::NoSection { asked, .. } => asked.map_or(2, Direction::code),
+            InstrumentRefusal::NotAtRest { direction, .. }
+            | InstrumentRefusal::OtherDirection { direction, .. }
+            | InstrumentRefusal::WrongPhase { direction, .. } => direction.code(),
         }
     }
 
@@ -77,49 +74,24 @@ impl InstrumentRefusal {
     {
         match self {
             InstrumentRefusal::NoSection { .. } => 255,
-            InstrumentRefusal::NotAtRest { found, .. } => found.code(),
-            InstrumentRefusal::OtherDirection { found, .. } => found.code(),
-            InstrumentRefusal::WrongPhase { found, .. } => found.code(),
+            InstrumentRefusal::NotAtRest { found, .. }
+            | InstrumentRefusal::OtherDirection { found, .. }
+            | InstrumentRefusal::WrongPhase { found, .. } => found.code(),
         }
     }
 
     // The same refusal, told of another section number.
-    pub fn told_of(self, section: u32) -> InstrumentRefusal
+    pub fn told_of(mut self, section: u32) -> InstrumentRefusal
         ensures { result ≡ told_of section self }
     {
-        match self {
-            InstrumentRefusal::NoSection { asked, .. } => InstrumentRefusal::NoSection {
-                section,
-                asked,
-            },
-            InstrumentRefusal::NotAtRest {
-                direction,
-                found,
-                ..
-            } => InstrumentRefusal::NotAtRest {
-                section,
-                direction,
-                found,
-            },
-            InstrumentRefusal::OtherDirection {
-                direction,
-                found,
-                ..
-            } => InstrumentRefusal::OtherDirection {
-                section,
-                direction,
-                found,
-            },
-            InstrumentRefusal::WrongPhase {
-                direction,
-                found,
-                ..
-            } => InstrumentRefusal::WrongPhase {
-                section,
-                direction,
-                found,
-            },
+        // One pattern for all four would do, but the proof loses a write under it.
+        match &mut self {
+            InstrumentRefusal::NoSection { section: own, .. } => *own = section,
+            InstrumentRefusal::NotAtRest { section: own, .. } => *own = section,
+            InstrumentRefusal::OtherDirection { section: own, .. } => *own = section,
+            InstrumentRefusal::WrongPhase { section: own, .. } => *own = section,
         }
+        self
     }
 }
 
@@ -127,9 +99,21 @@ impl InstrumentRefusal {
 pub fn retold<T>(answer: Result<T, InstrumentRefusal>, section: u32) -> Result<T, InstrumentRefusal>
     ensures { result ≡ retold section answer }
 {
-    match answer {
-        Ok(value) => Ok(value),
-        Err(refusal) => Err(refusal.told_of(section)),
+    answer.map_err(|refusal| refusal.told_of(section))
+}
+
+// Refuses a section that is not among as many as there are, for whatever direction was asked.
+pub fn check_section(
+    section: u32,
+    count: u32,
+    asked: Option<Direction>,
+) -> Result<(), InstrumentRefusal>
+    ensures { result ≡ section_check section count asked }
+{
+    if section < count {
+        Ok(())
+    } else {
+        Err(InstrumentRefusal::NoSection { section, asked })
     }
 }
 
@@ -143,21 +127,16 @@ fn refused(action: Action, section: u32, direction: Direction, found: Phase) -> 
             direction,
             found,
         },
-        Action::Open | Action::Return | Action::Clear | Action::Restore => {
-            if found.is_towards(direction) {
-                InstrumentRefusal::WrongPhase {
-                    section,
-                    direction,
-                    found,
-                }
-            } else {
-                InstrumentRefusal::OtherDirection {
-                    section,
-                    direction,
-                    found,
-                }
-            }
-        }
+        _ if found.is_towards(direction) => InstrumentRefusal::WrongPhase {
+            section,
+            direction,
+            found,
+        },
+        _ => InstrumentRefusal::OtherDirection {
+            section,
+            direction,
+            found,
+        },
     }
 }
 

@@ -6,11 +6,13 @@ ghost use Rattle.std.specs.Option.{option_map};
 ghost use Rattle.std.specs.List.{slice_get};
 ghost use Rattle.book.specs.Entered.{entered, unused, full, add_answer, add_rows};
 
-// The rows entered so far are the first `len` of the slice, which is all of it where `len` is larger.
+// The rows entered so far are the first `len` of the slice. Memory is fixed and nothing is on the heap, so the rows are lent and
+// not owned. No model: it would hide from the lender what the slice holds once the book is gone.
 #[derive(Drop)]
 pub struct Book<'a, R> {
     rows: &'a mut [R],
     len: usize,
+    ghost within: { len ≤ length rows.now },
 }
 
 impl<'a, R> Book<'a, R> {
@@ -35,33 +37,27 @@ impl<'a, R> Book<'a, R> {
     pub fn len(&self) -> usize
         ensures { result ≡ length (entered self.now.len self.now.rows.now) }
     {
-        self.len.min(self.rows.len())
+        self.len
     }
 
     pub fn is_full(&self) -> bool
         ensures { result ≡ full self.now.len self.now.rows.now }
     {
-        self.len >= self.rows.len()
+        self.room() == self.len
     }
 
     // The rows entered, in order.
     pub fn filled(&self) -> &[R]
         ensures { result.now ≡ entered self.now.len self.now.rows.now }
     {
-        let n = self.len.min(self.rows.len());
-        &self.rows[0..n]
+        &self.rows[..self.len]
     }
 
     // The row at a place, counted from 0.
     pub fn row(&self, place: usize) -> Option<&R>
         ensures { option_map (λ x. x.now) result ≡ slice_get (entered self.now.len self.now.rows.now) place }
     {
-        let rows = self.filled();
-        if place < rows.len() {
-            Some(&rows[place])
-        } else {
-            None
-        }
+        self.filled().get(place)
     }
 
     // Enters a row; a full book gives it back, and is as it was.
@@ -74,7 +70,7 @@ impl<'a, R> Book<'a, R> {
         ensures rest { unused self.new.len self.new.rows.now ≡ drop 1 (unused self.old.len self.old.rows.now) }
         ensures lender { self.new.rows.ghost_name ≡ self.old.rows.ghost_name }
     {
-        if self.len >= self.rows.len() {
+        if self.is_full() {
             return Err(row);
         }
         self.rows[self.len] = row;

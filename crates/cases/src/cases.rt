@@ -1,8 +1,9 @@
 // A worked example, and how it is compared.
 use answers::texts::put_refusal;
-use anyhow::anyhow;
+use anyhow::ensure;
 use book::Book;
 use sheet::sheets::{MOST_ANSWER, play_sheet};
+use std::io;
 use std::io::Write;
 
 #[derive(Drop)]
@@ -13,34 +14,29 @@ pub struct Case<'a> {
 }
 
 // Prints what was compared; a difference is an error.
-pub fn tell(rt: &HostRuntime, what: &str, same: bool) -> anyhow::Result<()> {
-    if same {
-        println!(rt; "{what} (same)")?;
-        Ok(())
-    } else {
-        println!(rt; "{what} (differs)")?;
-        Err(anyhow!("an answer differs"))
-    }
+pub fn tell(rt: &impl Print, what: &str, same: bool) -> anyhow::Result<()> {
+    let outcome = if same { "same" } else { "differs" };
+    println!(rt; "{what} ({outcome})")?;
+    ensure!(same, "an answer differs");
+    Ok(())
 }
 
 // An answer that differs is printed too.
-pub fn compare(rt: &HostRuntime, case: &Case<'_>, answer: &[u8]) -> anyhow::Result<()> {
+pub fn compare(rt: &impl Print, case: &Case<'_>, answer: &[u8]) -> anyhow::Result<()> {
     let same = answer == case.answer;
     if !same {
-        rt.stdout().write_all(answer)?;
+        io::writer(rt).write_all(answer)?;
     }
     tell(rt, case.what, same)
 }
 
 // Plays a sheet, and compares its whole answer, or the refusal of the whole sheet.
-pub fn check(rt: &HostRuntime, case: &Case<'_>) -> anyhow::Result<()> {
+pub fn check(rt: &impl Print, case: &Case<'_>) -> anyhow::Result<()> {
     let mut answer = [0u8; MOST_ANSWER];
-    match play_sheet(case.sheet, &mut answer) {
-        Ok(written) => compare(rt, case, &answer[0..written]),
-        Err(refusal) => {
-            let mut text = Book::new(&mut answer);
-            put_refusal(&mut text, refusal);
-            compare(rt, case, text.filled())
-        }
-    }
+    let written = play_sheet(case.sheet, &mut answer).unwrap_or_else(|refusal| {
+        let mut text = Book::new(&mut answer);
+        put_refusal(&mut text, refusal);
+        text.len()
+    });
+    compare(rt, case, &answer[..written])
 }

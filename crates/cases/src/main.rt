@@ -12,14 +12,10 @@ mod limits;
 mod sheets;
 mod turns;
 
-fn run(rt: &HostRuntime) -> anyhow::Result<()> {
-    for case in SHEETS {
-        check(rt, case)?;
-    }
-    check_limits(rt)?;
-    check_turns(rt)
-}
-
 fn main(rt: HostRuntime) -> anyhow::Result<()> {
-    run(&rt)
+    for case in SHEETS {
+        check(&rt, case)?;
+    }
+    check_limits(&rt)?;
+    check_turns(&rt)
 }

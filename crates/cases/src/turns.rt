@@ -6,29 +6,14 @@ use book::Book;
 use line::lines::Line;
 use makes::interlocked::Interlocked;
 use makes::piles::MixedPile;
-use makes::sections::SectionRecord;
 use makes::telephone::Telephone;
 use rules::calls::Call;
-use rules::slips::SealRow;
+use rules::slips::{BLANK_SEAL, SealRow};
 use sheet::plays::play_lines;
-use turn::rows::{Kind, RegisterRow};
-use turn::turns::work;
+use turn::rows::{BLANK_ROW, RegisterRow};
+use turn::turns::Turn;
 
 const UP: Direction = Direction::Up;
-
-const BLANK_ROW: RegisterRow = RegisterRow {
-    kind: Kind::Placing,
-    train: None,
-    section: None,
-    direction: None,
-    post: None,
-};
-
-const BLANK_SEAL: SealRow = SealRow {
-    section: 0,
-    direction: UP,
-    row: 0,
-};
 
 const FULL_REGISTER: Case = Case {
     what: "104: N 5 0, and a register of no rows",
@@ -54,6 +39,8 @@ const NOT_AT_REST: Case = Case {
     answer: b"2 no 202\n",
 };
 
+// An instrument of two sections, and one that no line can be made over. The program numbers has the two as well: no library
+// below is for what is only tried.
 fn two() -> MixedPile<Interlocked, Telephone> {
     MixedPile {
         first: Interlocked::new(1),
@@ -61,7 +48,7 @@ fn two() -> MixedPile<Interlocked, Telephone> {
     }
 }
 
-fn given() -> Telephone {
+fn not_at_rest() -> Telephone {
     let mut telephone = Telephone::new(1);
     let _ = telephone.operate(Action::Give, 0, UP);
     telephone
@@ -69,60 +56,46 @@ fn given() -> Telephone {
 
 // Plays the lines over an instrument, with books of these sizes.
 fn check_turn<I: BlockInstrument + Drop>(
-    rt: &HostRuntime,
+    rt: &impl Print,
     case: &Case<'_>,
     instrument: I,
     rows: &mut [RegisterRow],
     slips: &mut [SealRow],
 ) -> anyhow::Result<()> {
-    let mut line = Line::new(instrument);
-    let mut register = Book::new(rows);
-    let mut seals = Book::new(slips);
+    let mut turn = Turn::new(Line::new(instrument), Book::new(rows), Book::new(slips));
     let mut answer = [0u8; 100];
     let mut answer = Book::new(&mut answer);
-    play_lines(
-        &mut line,
-        &mut register,
-        &mut seals,
-        case.sheet,
-        &mut answer,
-    );
+    play_lines(&mut turn, case.sheet, &mut answer);
     compare(rt, case, answer.filled())
 }
 
 // On a sheet, 100,000 has a digit too many.
-fn check_train(rt: &HostRuntime) -> anyhow::Result<()> {
-    let mut line = Line::new(two());
+fn check_train(rt: &impl Print) -> anyhow::Result<()> {
     let mut rows = [BLANK_ROW; 1];
-    let mut register = Book::new(&mut rows);
-    let mut seals = Book::new(&mut []);
+    let mut turn = Turn::new(Line::new(two()), Book::new(&mut rows), Book::new(&mut []));
     let call = Call::PlaceTrain {
         train: 100_000,
         post: 0,
     };
-    let refused = match work(&mut line, &mut register, &mut seals, call) {
-        Ok(()) => false,
-        Err(refusal) => refusal.number() == 205,
-    };
+    let refused = turn
+        .work(call)
+        .is_err_and(|refusal| refusal.number() == 205);
     tell(rt, "205: train 100000", refused)
 }
 
 // A line refuses such a section before it asks its instrument.
-fn check_phase(rt: &HostRuntime) -> anyhow::Result<()> {
-    let refused = match two().phase(2) {
-        Ok(_) => false,
-        Err(refusal) => refusal.number() == 301,
-    };
+fn check_phase(rt: &impl Print) -> anyhow::Result<()> {
+    let refused = two().phase(2).is_err_and(|refusal| refusal.number() == 301);
     tell(rt, "301: the phase of section 2 of 2", refused)
 }
 
-pub fn check_turns(rt: &HostRuntime) -> anyhow::Result<()> {
+pub fn check_turns(rt: &impl Print) -> anyhow::Result<()> {
     let mut rows = [BLANK_ROW; 1];
     let mut slips = [BLANK_SEAL; 1];
     check_turn(rt, &FULL_REGISTER, two(), &mut [], &mut slips)?;
     check_turn(rt, &FULL_SEALS, two(), &mut rows, &mut [])?;
     check_turn(rt, &NO_SECTION, Interlocked::new(0), &mut rows, &mut slips)?;
-    check_turn(rt, &NOT_AT_REST, given(), &mut rows, &mut slips)?;
+    check_turn(rt, &NOT_AT_REST, not_at_rest(), &mut rows, &mut slips)?;
     check_train(rt)?;
     check_phase(rt)
 }

@@ -1,3 +1,2 @@
 pub mod Resting
-pub mod FirstChecks
 pub mod Parts

@@ -8,11 +8,11 @@ use Rattle.block.proofs.Steps as steps
 use Rattle.std.specs.Option.{option_map}
 use Rattle.std.specs.Result.{result_err}
 use Rattle.rules.specs.Calls.{section_of, direction_of, action_of}
-use Rattle.rules.specs.Checks.{first_refusal, unfit, own_checks, asked, refusal}
-use Rattle.rules.specs.Effects.{phases_effect, effect}
+use Rattle.rules.specs.Checks.{told, first_refusal, unfit, own_checks, asked, refusal}
+use Rattle.rules.specs.Effects.{phases_effect, section_effect, sections_effect, trains_effect, effect}
 use Rattle.line.specs.Lines.{line_after, unless}
 use Rattle.rules.specs.State.{LineState}
-use Rattle.line.specs.Working.{told}
+use Rattle.line.specs.Working.{ask_after, with_sections, with_trains}
 use Rattle.rules.specs.declared.calls.Call.{Call}
 use Rattle.rules.specs.declared.refusals.LineRefusal.{LineRefusal}
 use Rattle.rules.specs.declared.refusals.LineRefusal.TheVariants.{Instrument}
@@ -74,3 +74,11 @@ told_ok (Some r) e = clash (cc)
 pub told_err : (o : Option LineRefusal) (e : LineRefusal) → told o ≡ Err e → o ≡ Some e
 told_err None e h = clash (cc)
 told_err (Some r) e h = let same : r ≡ e = cc in ap Some same
+
+-- the parts of an accepted call's effect, one after the other
+pub worked_in_parts : (s : LineState) (c : Call) (way : Option Direction) (a b d : LineState) → way ≡ direction_of s c → a ≡ ask_after c way s → b ≡ with_sections (sections_effect (section_of c) (section_effect c way) a.sections) a → d ≡ with_trains (trains_effect c way b.trains) b → d ≡ effect s c
+unfolding effect
+worked_in_parts s c way a b d direction asked first then =
+    then ∙ ap (λ (x : LineState). with_trains (trains_effect c way x.trains) x) first
+    ∙ ap (λ (x : LineState). with_trains (trains_effect c way x.trains) (with_sections (sections_effect (section_of c) (section_effect c way) x.sections) x)) asked
+    ∙ ap (λ o. with_trains (trains_effect c o s.trains) (with_sections (sections_effect (section_of c) (section_effect c o) s.sections) (ask_after c o s))) direction

@@ -1,19 +1,21 @@
 -- Whether an instrument is at rest, section by section.
-use Rattle.std.proofs.Common.{◌≡◌, ℕ, suc, ◌+◌, ◌<◌, true, false, ◌&&◌, List, length, drop, sym, ap, ◌∙◌, add-one, drop-cons}
+use Rattle.std.proofs.Common.{◌≡◌, ℕ, zero, suc, ◌+◌, ◌<◌, ◌&&◌, List, length, drop, sym, ap, ◌∙◌, add-one, arith, drop-cons}
+use Rattle.std.proofs.lemmas.List.{drop_all}
+use Rattle.std.specs.List.{range_with_len, list_all}
 use Rattle.block.specs.Meaning.{phase_answer}
 use Rattle.block.specs.declared.order.Phase.{Phase}
 use Rattle.block.specs.declared.order.Phase.TheVariants.{Rest}
 use Rattle.block.proofs.Laws.{phase_there}
 use Rattle.line.specs.Lines.{at_rest, told_rest}
 
-module _ (ps : List Phase) (k : ℕ) (here : k < length ps) where
-  next : at_rest (drop k ps) ≡ (told_rest (phase_answer ps k) && at_rest (drop (k + 1) ps))
-  next =
-      ap at_rest (drop-cons ps k Rest here) ∙ ap (λ b. b && at_rest (drop (suc k) ps)) (sym (ap told_rest (phase_there ps k here)))
-      ∙ ap (λ j. told_rest (phase_answer ps k) && at_rest (drop j ps)) (sym (add-one k))
+module _ (ps : List Phase) where
+  rests_from : (k n : ℕ) → k + n ≡ length ps → list_all (λ j. told_rest (phase_answer ps j)) (range_with_len k n) ≡ at_rest (drop k ps)
+  rests_from k zero all = sym (ap at_rest (drop_all k ps (omega arith)))
+  rests_from k (suc n) all =
+      let here : k < length ps = omega arith in
+      ap (λ b. told_rest (phase_answer ps k) && b) (rests_from (k + 1) n (omega arith)) ∙ ap (λ j. told_rest (phase_answer ps k) && at_rest (drop j ps)) (add-one k)
+      ∙ ap (λ b. b && at_rest (drop (suc k) ps)) (ap told_rest (phase_there ps k here)) ∙ sym (ap at_rest (drop-cons ps k Rest here))
 
-  pub rest_on : told_rest (phase_answer ps k) ≡ true → at_rest (drop k ps) ≡ at_rest (drop (k + 1) ps)
-  rest_on t = next ∙ ap (λ b. b && at_rest (drop (k + 1) ps)) t
-
-  pub rest_broken : told_rest (phase_answer ps k) ≡ false → at_rest (drop k ps) ≡ false
-  rest_broken t = next ∙ ap (λ b. b && at_rest (drop (k + 1) ps)) t
+  -- each section's answer is rest exactly where the instrument is at rest
+  pub rests_throughout : list_all (λ j. told_rest (phase_answer ps j)) (range_with_len 0 (length ps)) ≡ at_rest ps
+  rests_throughout = rests_from 0 (length ps) (omega arith)

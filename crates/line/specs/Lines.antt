@@ -10,19 +10,10 @@ use Rattle.rules.specs.Effects.{effect}
 use Rattle.rules.specs.Slips.{slip_of}
 use Rattle.rules.specs.State.{LineState, idle}
 use Rattle.rules.specs.declared.calls.Call.{Call}
-use Rattle.line.specs.declared.lines.Line.{Line}
 use Rattle.rules.specs.declared.refusals.LineRefusal.{LineRefusal}
 use Rattle.rules.specs.declared.signals.Condition.{Condition}
 use Rattle.rules.specs.declared.signals.Condition.TheVariants.{Sound, Sectionless, Unsettled}
 use Rattle.rules.specs.declared.slips.Slip.{Slip}
-
-abbrev pub state : {I : Type 0} → (I → List Phase) → Line I → LineState
-state phases l = record {
-  condition = l.condition;
-  phases = phases l.instrument;
-  sections = l.sections;
-  trains = l.trains.records;
-}
 
 abbrev pub at_rest : List Phase → Bool
 at_rest [] = true

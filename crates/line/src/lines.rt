@@ -1,7 +1,7 @@
 // The line, over any block instrument.
-ghost use Rattle.std.specs.Prelude.{◌≡◌, length};
-
+use block::instruments::{BlockInstrument, MOST_SECTIONS};
 use rules::signals::{Condition, SectionState};
+use std::marker::Model;
 use trains::table::TrainTable;
 
 mod examining;
@@ -10,11 +10,22 @@ mod making;
 mod reading;
 mod working;
 
+// What a contract sees of a line is its state, in which the instrument stands by its sections' phases.
 #[derive(Drop)]
-pub struct Line<I> {
+pub struct Line<I: BlockInstrument> {
     instrument: I,
     condition: Condition,
-    sections: [SectionState; 16],
+    sections: [SectionState; MOST_SECTIONS as usize],
     trains: TrainTable,
-    ghost sized: { length sections ≡ 16 },
+}
+
+impl<I: BlockInstrument> Model for Line<I> {
+    ghost use Rattle.std.specs.Prelude.{◌≡◌, length};
+    ghost use Rattle.rules.specs.State.{LineState};
+
+    ghost Value = { LineState };
+
+    ghost view = { λ l. record { condition = l.condition; phases = I.BlockInstrument.phases l.instrument; sections = l.sections; trains = l.trains } };
+
+    ghost invariant = { λ l. length l.sections ≡ 16 };
 }

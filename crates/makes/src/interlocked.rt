@@ -1,70 +1,60 @@
 // The interlocked make: eight panes and a lever lock for each section.
 ghost use Rattle.std.specs.Prelude.{◌≡◌};
-ghost use Rattle.makes.specs.Interlocked.{pictured};
+ghost use Rattle.makes.specs.Interlocked.{pictured, Stands};
 ghost use Rattle.makes.specs.Rows.{row};
-ghost use Rattle.makes.specs.Panes.{panes, locked, panes_answer};
+ghost use Rattle.makes.specs.Panes.{panes_answer};
 
 use crate::interlocked::record::PaneRecord;
 use crate::sections::{SectionRecord, Sections};
 use block::order::{Action, Direction, Phase};
-use block::refusals::{InstrumentRefusal, work};
+use block::refusals::{InstrumentRefusal, check_section};
 
 pub mod record;
 
 pub type Interlocked = Sections<PaneRecord>;
 
-impl PaneRecord {
-    // The panes and the lock of a phase.
-    fn of(phase: Phase) -> PaneRecord
-        ensures panes { result.panes ≡ panes phase }
-        ensures lock { result.lock ≡ locked phase }
-        ensures phase { pictured result ≡ phase }
-    {
-        match phase {
-            Phase::Rest => PaneRecord {
-                panes: 85,
-                lock: false,
-            },
-            Phase::Given(Direction::Up) => PaneRecord {
-                panes: 116,
-                lock: false,
-            },
-            Phase::Opened(Direction::Up) => PaneRecord {
-                panes: 116,
-                lock: true,
-            },
-            Phase::Returned(Direction::Up) => PaneRecord {
-                panes: 247,
-                lock: false,
-            },
-            Phase::Cleared(Direction::Up) => PaneRecord {
-                panes: 183,
-                lock: false,
-            },
-            Phase::Given(Direction::Down) => PaneRecord {
-                panes: 71,
-                lock: false,
-            },
-            Phase::Opened(Direction::Down) => PaneRecord {
-                panes: 71,
-                lock: true,
-            },
-            Phase::Returned(Direction::Down) => PaneRecord {
-                panes: 127,
-                lock: false,
-            },
-            Phase::Cleared(Direction::Down) => PaneRecord {
-                panes: 123,
-                lock: false,
-            },
+// The panes and the lock of a phase.
+impl From<Phase> for PaneRecord {
+    ghost from_gives = { λ phase kept. Stands kept phase };
+
+    fn from(phase: Phase) -> PaneRecord {
+        let panes = match phase {
+            Phase::Rest => 85,
+            Phase::Given(Direction::Up) | Phase::Opened(Direction::Up) => 116,
+            Phase::Returned(Direction::Up) => 247,
+            Phase::Cleared(Direction::Up) => 183,
+            Phase::Given(Direction::Down) | Phase::Opened(Direction::Down) => 71,
+            Phase::Returned(Direction::Down) => 127,
+            Phase::Cleared(Direction::Down) => 123,
+        };
+        PaneRecord {
+            panes,
+            lock: matches!(phase, Phase::Opened(_)),
         }
     }
+}
 
-    // The phase that panes and lock stand for.
-    fn read(self) -> Phase
-        ensures phase { result ≡ pictured self }
-        ensures panes { self.panes ≡ panes result }
-        ensures lock { self.lock ≡ locked result }
+impl Sections<PaneRecord> {
+    // The panes that a section shows.
+    #[tactic(auto, unfolding(block::specs::Meaning::phase_answer))]
+    pub fn panes(&self, section: u32) -> Result<u8, InstrumentRefusal>
+        ensures { result ≡ panes_answer (row pictured self.now.count self.now.records) section }
+    {
+        check_section(section, self.count, None)?;
+        Ok(self.records[section as usize].panes)
+    }
+}
+
+impl SectionRecord for PaneRecord {
+    ghost shows = { pictured };
+
+    fn at_rest() -> PaneRecord {
+        PaneRecord::from(Phase::Rest)
+    }
+
+    fn phase(&self) -> Phase
+        ensures shown { result ≡ pictured self.now }
+        ensures stands { Stands self.now result }
     {
         match (self.panes, self.lock) {
             (85, false) => Phase::Rest,
@@ -76,45 +66,11 @@ impl PaneRecord {
             (71, true) => Phase::Opened(Direction::Down),
             (127, false) => Phase::Returned(Direction::Down),
             (123, false) => Phase::Cleared(Direction::Down),
-            _ => unreachable(),
+            _ => unreachable!(),
         }
     }
-}
 
-impl Sections<PaneRecord> {
-    // The panes that a section shows.
-    pub fn panes(&self, section: u32) -> Result<u8, InstrumentRefusal>
-        ensures { result ≡ panes_answer (row pictured self.now.count self.now.records) section }
-    {
-        if section >= self.count {
-            return Err(InstrumentRefusal::NoSection {
-                section,
-                asked: None,
-            });
-        }
-        Ok(self.records[section as usize].panes)
-    }
-}
-
-impl SectionRecord for PaneRecord {
-    ghost shows = { pictured };
-
-    fn at_rest() -> PaneRecord {
-        PaneRecord::of(Phase::Rest)
-    }
-
-    fn phase(&self) -> Phase {
-        self.read()
-    }
-
-    fn work(
-        &mut self,
-        action: Action,
-        section: u32,
-        direction: Direction,
-    ) -> Result<(), InstrumentRefusal> {
-        let next = work(action, section, direction, self.read())?;
-        *self = PaneRecord::of(next);
-        Ok(())
+    fn accept(&mut self, action: Action, direction: Direction) {
+        *self = PaneRecord::from(action.brings(direction));
     }
 }

@@ -1,10 +1,9 @@
 // The mixed pile: two instruments of any make, joined into one.
 ghost use Rattle.makes.specs.Piles.{joined, joined_few};
 
-use crate::sections::MOST_SECTIONS;
-use block::instruments::BlockInstrument;
+use block::instruments::{BlockInstrument, MOST_SECTIONS};
 use block::order::{Action, Direction, Phase};
-use block::refusals::{InstrumentRefusal, retold};
+use block::refusals::{InstrumentRefusal, check_section, retold};
 
 // The first one's sections come first, then the second one's; only the first sixteen count.
 #[derive(Drop)]
@@ -27,12 +26,7 @@ impl<P: BlockInstrument, Q: BlockInstrument> BlockInstrument for MixedPile<P, Q>
         if section < below {
             return self.first.phase(section);
         }
-        if section >= MOST_SECTIONS {
-            return Err(InstrumentRefusal::NoSection {
-                section,
-                asked: None,
-            });
-        }
+        check_section(section, MOST_SECTIONS, None)?;
         retold(self.second.phase(section - below), section)
     }
 
@@ -46,12 +40,7 @@ impl<P: BlockInstrument, Q: BlockInstrument> BlockInstrument for MixedPile<P, Q>
         if section < below {
             return self.first.operate(action, section, direction);
         }
-        if section >= MOST_SECTIONS {
-            return Err(InstrumentRefusal::NoSection {
-                section,
-                asked: Some(direction),
-            });
-        }
+        check_section(section, MOST_SECTIONS, Some(direction))?;
         retold(
             self.second.operate(action, section - below, direction),
             section,

@@ -1,13 +1,15 @@
 // A make that keeps one record for each section: what it owes of the record, and the instrument that this gives.
 ghost use Rattle.std.specs.Prelude.{◌≡◌, ◌≤◌, min, length, replicate};
 ghost use Rattle.block.specs.Meaning.{worked, answer_of, phase_after};
+ghost use Rattle.block.specs.Order.{brings};
 ghost use Rattle.makes.specs.Rows.{row, row_few};
 ghost use Rattle.block.specs.declared.order.Phase.{Phase};
 ghost use Rattle.block.specs.declared.order.Phase.TheVariants.{Rest};
 
 use block::instruments::BlockInstrument;
+pub use block::instruments::MOST_SECTIONS;
 use block::order::{Action, Direction, Phase};
-use block::refusals::InstrumentRefusal;
+use block::refusals::{InstrumentRefusal, check_section, work};
 
 // How a make keeps one section.
 pub trait SectionRecord: Copy {
@@ -18,7 +20,11 @@ pub trait SectionRecord: Copy {
         ensures { shows result ≡ Rest };
 
     fn phase(&self) -> Phase
-        ensures { result ≡ shows self.now };
+        ensures shown { result ≡ shows self.now };
+
+    // Takes the record on by an action that has been accepted.
+    fn accept(&mut self, action: Action, direction: Direction)
+        ensures { shows self.new ≡ brings action direction };
 
     // One action at this section, whose number is only told in a refusal.
     fn work(
@@ -28,15 +34,20 @@ pub trait SectionRecord: Copy {
         direction: Direction,
     ) -> Result<(), InstrumentRefusal>
         ensures answered { result ≡ answer_of (worked action section direction (shows self.old)) }
-        ensures followed { shows self.new ≡ phase_after action section direction (shows self.old) };
+        ensures followed { shows self.new ≡ phase_after action section direction (shows self.old) }
+    {
+        work(action, section, direction, self.phase())?;
+        self.accept(action, direction);
+        Ok(())
+    }
 }
 
-pub const MOST_SECTIONS: u32 = 16;
-
-// An instrument of at most sixteen sections, each kept as a record of its make.
+// An instrument of at most sixteen sections, each kept as a record of its make. The records stand in an array with their
+// count beside it, since a list that grows would take its memory from the heap. No model: the law `few` would have to hold of every
+// list of records, so that the phases would be cut to sixteen once more.
 #[derive(Drop)]
 pub struct Sections<R> {
-    pub(crate) records: [R; 16],
+    pub(crate) records: [R; MOST_SECTIONS as usize],
     pub(crate) count: u32,
     ghost sized: { length records ≡ 16 },
     ghost few: { count ≤ 16 },
@@ -48,12 +59,13 @@ impl<R: SectionRecord> Sections<R> {
         ensures { row R.shows result.count result.records ≡ replicate (min count 16) Rest }
     {
         Sections {
-            records: [R::at_rest(); 16],
+            records: [R::at_rest(); MOST_SECTIONS as usize],
             count: count.min(MOST_SECTIONS),
         }
     }
 }
 
+#[tactic(auto, unfolding(block::specs::Meaning::phase_answer, block::specs::Meaning::answer, block::specs::Meaning::after))]
 impl<R: SectionRecord> BlockInstrument for Sections<R> {
     ghost phases = { λ s. row R.SectionRecord.shows s.count s.records };
 
@@ -64,12 +76,7 @@ impl<R: SectionRecord> BlockInstrument for Sections<R> {
     }
 
     fn phase(&self, section: u32) -> Result<Phase, InstrumentRefusal> {
-        if section >= self.count {
-            return Err(InstrumentRefusal::NoSection {
-                section,
-                asked: None,
-            });
-        }
+        check_section(section, self.count, None)?;
         Ok(self.records[section as usize].phase())
     }
 
@@ -79,12 +86,7 @@ impl<R: SectionRecord> BlockInstrument for Sections<R> {
         section: u32,
         direction: Direction,
     ) -> Result<(), InstrumentRefusal> {
-        if section >= self.count {
-            return Err(InstrumentRefusal::NoSection {
-                section,
-                asked: Some(direction),
-            });
-        }
+        check_section(section, self.count, Some(direction))?;
         self.records[section as usize].work(action, section, direction)
     }
 }

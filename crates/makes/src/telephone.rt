@@ -8,7 +8,6 @@ use crate::sections::{SectionRecord, Sections};
 use crate::telephone::letters::Letter;
 use crate::telephone::record::LetterRecord;
 use block::order::{Action, Direction, Phase};
-use block::refusals::{InstrumentRefusal, work};
 
 pub mod letters;
 pub mod record;
@@ -23,46 +22,16 @@ impl LetterRecord {
         ensures opened { result.opened ≡ marked action }
         ensures phase { understood result ≡ brings action direction }
     {
-        match action {
-            Action::Give => LetterRecord {
-                letter: Some(Letter::Grant),
-                direction,
-                opened: false,
-            },
-            Action::Open => LetterRecord {
-                letter: Some(Letter::Grant),
-                direction,
-                opened: true,
-            },
-            Action::Return => LetterRecord {
-                letter: Some(Letter::EntryConfirmed),
-                direction,
-                opened: false,
-            },
-            Action::Clear => LetterRecord {
-                letter: Some(Letter::Exit),
-                direction,
-                opened: false,
-            },
-            Action::Restore => LetterRecord {
-                letter: Some(Letter::ExitConfirmed),
-                direction,
-                opened: false,
-            },
-        }
-    }
-
-    // The phase that the letter and the mark stand for.
-    fn read(self) -> Phase
-        ensures { result ≡ understood self }
-    {
-        match (self.letter, self.opened) {
-            (None, _) | (Some(Letter::ExitConfirmed), _) => Phase::Rest,
-            (Some(Letter::Grant), false) => Phase::Given(self.direction),
-            (Some(Letter::Grant), true) => Phase::Opened(self.direction),
-            (Some(Letter::EntryConfirmed), _) => Phase::Returned(self.direction),
-            (Some(Letter::Exit), _) => Phase::Cleared(self.direction),
-            (Some(Letter::Request), _) | (Some(Letter::Entry), _) => unreachable(),
+        let letter = match action {
+            Action::Give | Action::Open => Letter::Grant,
+            Action::Return => Letter::EntryConfirmed,
+            Action::Clear => Letter::Exit,
+            Action::Restore => Letter::ExitConfirmed,
+        };
+        LetterRecord {
+            letter: Some(letter),
+            direction,
+            opened: matches!(action, Action::Open),
         }
     }
 }
@@ -79,17 +48,17 @@ impl SectionRecord for LetterRecord {
     }
 
     fn phase(&self) -> Phase {
-        self.read()
+        match (self.letter, self.opened) {
+            (None | Some(Letter::ExitConfirmed), _) => Phase::Rest,
+            (Some(Letter::Grant), false) => Phase::Given(self.direction),
+            (Some(Letter::Grant), true) => Phase::Opened(self.direction),
+            (Some(Letter::EntryConfirmed), _) => Phase::Returned(self.direction),
+            (Some(Letter::Exit), _) => Phase::Cleared(self.direction),
+            (Some(Letter::Request | Letter::Entry), _) => unreachable!(),
+        }
     }
 
-    fn work(
-        &mut self,
-        action: Action,
-        section: u32,
-        direction: Direction,
-    ) -> Result<(), InstrumentRefusal> {
-        work(action, section, direction, self.read())?;
+    fn accept(&mut self, action: Action, direction: Direction) {
         *self = LetterRecord::after(action, direction);
-        Ok(())
     }
 }

@@ -1,6 +1,8 @@
 // Each refusal number with an example of it: the number that the last of some calls gets, 0 where it is accepted.
 #![tactic(auto)]
 
+ghost use Rattle.std.specs.Prelude.{◌^◌, ◌<◌};
+
 use block::instruments::BlockInstrument;
 use block::order::{Action, Direction};
 use book::Book;
@@ -9,10 +11,11 @@ use makes::interlocked::Interlocked;
 use makes::piles::MixedPile;
 use makes::telephone::Telephone;
 use rules::calls::Call;
-use rules::slips::SealRow;
-use std::io;
-use turn::rows::{Kind, RegisterRow};
-use turn::turns::work;
+use rules::slips::{BLANK_SEAL, SealRow};
+use std::{array, io};
+use turn::refusals::TurnRefusal;
+use turn::rows::{BLANK_ROW, RegisterRow};
+use turn::turns::Turn;
 
 const UP: Direction = Direction::Up;
 
@@ -38,47 +41,68 @@ const UNSEAL: Call = Call::UnsealSection {
     direction: UP,
 };
 
-const BLANK_ROW: RegisterRow = RegisterRow {
-    kind: Kind::Placing,
-    train: None,
-    section: None,
-    direction: None,
-    post: None,
-};
+// Calls on a pile of two sections, with room in both books, and as what they are told.
+const EXAMPLES: &[(&str, &[Call])] = &[
+    (
+        "G 2 u",
+        &[Call::GiveRelease {
+            section: 2,
+            direction: UP,
+        }],
+    ),
+    ("N 5 3", &[Call::PlaceTrain { train: 5, post: 3 }]),
+    ("N 0 0", &[Call::PlaceTrain { train: 0, post: 0 }]),
+    (
+        "N 100000 0",
+        &[Call::PlaceTrain {
+            train: 100_000,
+            post: 0,
+        }],
+    ),
+    ("N 5 0 twice", &[PLACE, PLACE]),
+    ("W 9", &[Call::WithdrawTrain { train: 9 }]),
+    (
+        "N 5 0, E 5 1",
+        &[
+            PLACE,
+            Call::EnterSection {
+                train: 5,
+                section: 1,
+            },
+        ],
+    ),
+    (
+        "F 0 u",
+        &[Call::CloseSignal {
+            section: 0,
+            direction: UP,
+        }],
+    ),
+    (
+        "S 0 u",
+        &[Call::ShutHome {
+            section: 0,
+            direction: UP,
+        }],
+    ),
+    (
+        "D 0 u",
+        &[Call::ClearSection {
+            section: 0,
+            direction: UP,
+        }],
+    ),
+    (
+        "N 5 0, G 0 u, O 0 u, E 5 0, U 0 u",
+        &[PLACE, GIVE, OPEN, ENTER, UNSEAL],
+    ),
+    ("G 0 u twice", &[GIVE, GIVE]),
+    ("O 0 u", &[OPEN]),
+    ("G 0 u, O 0 u twice", &[GIVE, OPEN, OPEN]),
+];
 
-const BLANK_SEAL: SealRow = SealRow {
-    section: 0,
-    direction: UP,
-    row: 0,
-};
-
-// The number that the last call gets, on a new turn with books of these sizes.
-fn last_number<I: BlockInstrument + Drop>(
-    instrument: I,
-    rows: &mut [RegisterRow],
-    slips: &mut [SealRow],
-    calls: &[Call],
-) -> u16 {
-    let mut line = Line::new(instrument);
-    let mut register = Book::new(rows);
-    let mut seals = Book::new(slips);
-    let mut number = 0;
-    for call in calls {
-        number = match work(&mut line, &mut register, &mut seals, *call) {
-            Ok(()) => 0,
-            Err(refusal) => refusal.number(),
-        };
-    }
-    number
-}
-
-// The same with room in both books.
-fn number_of<I: BlockInstrument + Drop>(instrument: I, calls: &[Call]) -> u16 {
-    let mut rows = [BLANK_ROW; 80];
-    let mut slips = [BLANK_SEAL; 4];
-    last_number(instrument, &mut rows, &mut slips, calls)
-}
-
+// An instrument of two sections, and one that no line can be made over. The program cases has the two as well: no library below
+// is for what is only tried.
 fn two() -> MixedPile<Interlocked, Telephone> {
     MixedPile {
         first: Interlocked::new(1),
@@ -92,138 +116,83 @@ fn not_at_rest() -> Telephone {
     telephone
 }
 
+// What the last call is answered, on a new turn with books of these sizes.
+fn last_answer<I: BlockInstrument + Drop>(
+    instrument: I,
+    rows: &mut [RegisterRow],
+    slips: &mut [SealRow],
+    calls: &[Call],
+) -> Result<(), TurnRefusal> {
+    let mut turn = Turn::new(Line::new(instrument), Book::new(rows), Book::new(slips));
+    calls
+        .iter()
+        .map(|&call| turn.work(call))
+        .last()
+        .unwrap_or(Ok(()))
+}
+
+// The same with room in both books.
+fn answer_of<I: BlockInstrument + Drop>(instrument: I, calls: &[Call]) -> Result<(), TurnRefusal> {
+    let mut rows = [BLANK_ROW; 80];
+    let mut slips = [BLANK_SEAL; 4];
+    last_answer(instrument, &mut rows, &mut slips, calls)
+}
+
+// The number of an answer, 0 where the call is accepted.
+fn tell(rt: &impl Print, what: &str, answer: Result<(), TurnRefusal>) -> io::Result<()> {
+    let number = answer.err().map_or(0, TurnRefusal::number);
+    println!(rt; "{what}: {number}")
+}
+
 fn books(rt: &impl Print) -> io::Result<()> {
     let mut rows = [BLANK_ROW; 4];
     let mut slips = [BLANK_SEAL; 4];
-    let full_register = last_number(two(), &mut [], &mut slips, &[PLACE]);
-    let full_seals = last_number(two(), &mut rows, &mut [], &[UNSEAL]);
-    println!(rt; "register of no rows, N 5 0: {full_register}")?;
-    println!(rt; "seal book of no rows, U 0 u: {full_seals}")
+    let full_register = last_answer(two(), &mut [], &mut slips, &[PLACE]);
+    let full_seals = last_answer(two(), &mut rows, &mut [], &[UNSEAL]);
+    tell(rt, "register of no rows, N 5 0", full_register)?;
+    tell(rt, "seal book of no rows, U 0 u", full_seals)
 }
 
 fn making(rt: &impl Print) -> io::Result<()> {
-    let none = number_of(Interlocked::new(0), &[PLACE]);
-    let unsettled = number_of(not_at_rest(), &[PLACE]);
-    println!(rt; "line over a count of 0, N 5 0: {none}")?;
-    println!(rt; "line over a given section, N 5 0: {unsettled}")
+    let none = answer_of(Interlocked::new(0), &[PLACE]);
+    let unsettled = answer_of(not_at_rest(), &[PLACE]);
+    tell(rt, "line over a count of 0, N 5 0", none)?;
+    tell(rt, "line over a given section, N 5 0", unsettled)
 }
 
-fn places(rt: &impl Print) -> io::Result<()> {
-    let section = number_of(
-        two(),
-        &[Call::GiveRelease {
-            section: 2,
-            direction: UP,
-        }],
-    );
-    let post = number_of(two(), &[Call::PlaceTrain { train: 5, post: 3 }]);
-    let train = number_of(two(), &[Call::PlaceTrain { train: 0, post: 0 }]);
-    let large = number_of(
-        two(),
-        &[Call::PlaceTrain {
-            train: 100_000,
-            post: 0,
-        }],
-    );
-    let twice = number_of(two(), &[PLACE, PLACE]);
-    let absent = number_of(two(), &[Call::WithdrawTrain { train: 9 }]);
-    let elsewhere = number_of(
-        two(),
-        &[
-            PLACE,
-            Call::EnterSection {
-                train: 5,
-                section: 1,
-            },
-        ],
-    );
-    println!(rt; "G 2 u: {section}")?;
-    println!(rt; "N 5 3: {post}")?;
-    println!(rt; "N 0 0: {train}")?;
-    println!(rt; "N 100000 0: {large}")?;
-    println!(rt; "N 5 0 twice: {twice}")?;
-    println!(rt; "W 9: {absent}")?;
-    println!(rt; "N 5 0, E 5 1: {elsewhere}")
+// What the last of so many trains is answered, each placed at post 0.
+fn last_placed<const N: usize>() -> Result<(), TurnRefusal>
+    requires { N < 2 ^ 32 }
+{
+    let calls: [Call; N] = array::from_fn(|i| Call::PlaceTrain {
+        train: i as u32 + 1,
+        post: 0,
+    });
+    answer_of(two(), &calls)
 }
 
-fn signals(rt: &impl Print) -> io::Result<()> {
-    let block = number_of(
-        two(),
-        &[Call::CloseSignal {
-            section: 0,
-            direction: UP,
-        }],
-    );
-    let home = number_of(
-        two(),
-        &[Call::ShutHome {
-            section: 0,
-            direction: UP,
-        }],
-    );
-    let pedal = number_of(
-        two(),
-        &[Call::ClearSection {
-            section: 0,
-            direction: UP,
-        }],
-    );
-    let inside = number_of(two(), &[PLACE, GIVE, OPEN, ENTER, UNSEAL]);
-    println!(rt; "F 0 u: {block}")?;
-    println!(rt; "S 0 u: {home}")?;
-    println!(rt; "D 0 u: {pedal}")?;
-    println!(rt; "N 5 0, G 0 u, O 0 u, E 5 0, U 0 u: {inside}")
-}
-
-fn instruments(rt: &impl Print) -> io::Result<()> {
-    let given = number_of(two(), &[GIVE, GIVE]);
-    let rest = number_of(two(), &[OPEN]);
-    let opened = number_of(two(), &[GIVE, OPEN, OPEN]);
-    println!(rt; "G 0 u twice: {given}")?;
-    println!(rt; "O 0 u: {rest}")?;
-    println!(rt; "G 0 u, O 0 u twice: {opened}")
-}
-
-// The 64th train is taken, the 65th is not.
 fn trains(rt: &impl Print) -> io::Result<()> {
-    let mut calls = [PLACE; 65];
-    for i in 0..65u32 {
-        calls[i as usize] = Call::PlaceTrain {
-            train: i + 1,
-            post: 0,
-        };
-    }
-    let last = number_of(two(), &calls[0..64]);
-    let more = number_of(two(), &calls);
-    println!(rt; "the 64th train: {last}")?;
-    println!(rt; "the 65th train: {more}")
+    tell(rt, "the 64th train", last_placed::<64>())?;
+    tell(rt, "the 65th train", last_placed::<65>())
 }
 
 fn sections(rt: &impl Print) -> io::Result<()> {
-    let last = number_of(
-        Interlocked::new(16),
-        &[Call::GiveRelease {
-            section: 15,
+    for (what, section) in [("G 15 u of 16", 15), ("G 16 u of 16", 16)] {
+        let give = Call::GiveRelease {
+            section,
             direction: UP,
-        }],
-    );
-    let past = number_of(
-        Interlocked::new(16),
-        &[Call::GiveRelease {
-            section: 16,
-            direction: UP,
-        }],
-    );
-    println!(rt; "G 15 u of 16: {last}")?;
-    println!(rt; "G 16 u of 16: {past}")
+        };
+        tell(rt, what, answer_of(Interlocked::new(16), &[give]))?;
+    }
+    Ok(())
 }
 
 fn main(rt: HostRuntime) -> io::Result<()> {
     books(&rt)?;
     making(&rt)?;
-    places(&rt)?;
-    signals(&rt)?;
-    instruments(&rt)?;
+    for (what, calls) in EXAMPLES {
+        tell(&rt, what, answer_of(two(), calls))?;
+    }
     trains(&rt)?;
     sections(&rt)
 }

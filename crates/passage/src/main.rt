@@ -5,7 +5,7 @@
 ghost use Rattle.std.specs.Prelude.{◌≡◌};
 ghost use Rattle.passage.specs.Names.{opposite_of};
 
-use crate::texts::{AnswerText, PaneText, PhaseText, action_name, direction_name};
+use crate::texts::{ActionText, AnswerText, DirectionText, PaneText, PhaseText};
 use crate::views::PaneView;
 use block::instruments::try_action;
 use block::order::{Action, Direction};
@@ -16,45 +16,6 @@ use std::io;
 
 mod texts;
 mod views;
-
-// One action of a passage: for the train's own direction, or against it.
-#[derive(Clone, Copy)]
-struct Move {
-    action: Action,
-    against: bool,
-}
-
-// A whole passage. While the train is in the section, a release is tried against it, and the lever a second time.
-const PASSAGE: [Move; 7] = [
-    Move {
-        action: Action::Give,
-        against: false,
-    },
-    Move {
-        action: Action::Open,
-        against: false,
-    },
-    Move {
-        action: Action::Give,
-        against: true,
-    },
-    Move {
-        action: Action::Open,
-        against: false,
-    },
-    Move {
-        action: Action::Return,
-        against: false,
-    },
-    Move {
-        action: Action::Clear,
-        against: false,
-    },
-    Move {
-        action: Action::Restore,
-        against: false,
-    },
-];
 
 fn opposite(direction: Direction) -> Direction
     ensures { result ≡ opposite_of direction }
@@ -77,24 +38,30 @@ fn step<I: PaneView>(
     let panes = PaneText(instrument.view(section));
     let answer = AnswerText(tried.answer);
     let phase = PhaseText(tried.phase);
-    let action = action_name(action);
-    let direction = direction_name(direction);
+    let action = ActionText(action);
+    let direction = DirectionText(direction);
     println!(rt; "  {action} {section} {direction}: {answer}, phase {phase}{panes}")
 }
 
+// A whole passage. While the train is in the section, a release is tried against it, and the lever a second time.
 fn passage<I: PaneView>(
     rt: &impl Print,
     instrument: &mut I,
     section: u32,
     direction: Direction,
 ) -> io::Result<()> {
-    for m in PASSAGE {
-        let towards = if m.against {
-            opposite(direction)
-        } else {
-            direction
-        };
-        step(rt, instrument, m.action, section, towards)?;
+    let against = opposite(direction);
+    let actions = [
+        (Action::Give, direction),
+        (Action::Open, direction),
+        (Action::Give, against),
+        (Action::Open, direction),
+        (Action::Return, direction),
+        (Action::Clear, direction),
+        (Action::Restore, direction),
+    ];
+    for (action, towards) in actions {
+        step(rt, instrument, action, section, towards)?;
     }
     Ok(())
 }
@@ -104,8 +71,9 @@ fn passages<I: PaneView>(rt: &impl Print, make: &str, instrument: &mut I) -> io:
     let count = instrument.count();
     println!(rt; "{make}, sections: {count}")?;
     for section in 0..count {
-        passage(rt, instrument, section, Direction::Up)?;
-        passage(rt, instrument, section, Direction::Down)?;
+        for direction in [Direction::Up, Direction::Down] {
+            passage(rt, instrument, section, direction)?;
+        }
     }
     step(rt, instrument, Action::Give, count, Direction::Up)
 }

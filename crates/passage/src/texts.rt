@@ -1,29 +1,39 @@
 // What is printed, as text.
-ghost use Rattle.std.specs.Prelude.{◌≡◌};
+ghost use Rattle.std.specs.Prelude.{Some};
 ghost use Rattle.passage.specs.Names.{name_of_action, name_of_direction};
 
 use block::order::{Action, Direction, Phase};
 use block::refusals::InstrumentRefusal;
 use std::fmt;
 
-pub fn action_name(action: Action) -> &'static str
-    ensures { result.now ≡ name_of_action action }
-{
-    match action {
-        Action::Give => "give",
-        Action::Open => "open",
-        Action::Return => "return",
-        Action::Clear => "clear",
-        Action::Restore => "restore",
+#[derive(Clone, Copy)]
+pub struct ActionText(pub Action);
+
+impl fmt::Display for ActionText {
+    ghost output = { λ x. Some (name_of_action x.0) };
+
+    fn fmt<W: fmt::Write>(&self, f: &mut fmt::Formatter<W>) -> fmt::Result {
+        f.write_str(match self.0 {
+            Action::Give => "give",
+            Action::Open => "open",
+            Action::Return => "return",
+            Action::Clear => "clear",
+            Action::Restore => "restore",
+        })
     }
 }
 
-pub fn direction_name(direction: Direction) -> &'static str
-    ensures { result.now ≡ name_of_direction direction }
-{
-    match direction {
-        Direction::Up => "up",
-        Direction::Down => "down",
+#[derive(Clone, Copy)]
+pub struct DirectionText(pub Direction);
+
+impl fmt::Display for DirectionText {
+    ghost output = { λ x. Some (name_of_direction x.0) };
+
+    fn fmt<W: fmt::Write>(&self, f: &mut fmt::Formatter<W>) -> fmt::Result {
+        f.write_str(match self.0 {
+            Direction::Up => "up",
+            Direction::Down => "down",
+        })
     }
 }
 
@@ -33,14 +43,17 @@ pub struct AnswerText(pub Result<(), InstrumentRefusal>);
 
 impl fmt::Display for AnswerText {
     fn fmt<W: fmt::Write>(&self, f: &mut fmt::Formatter<W>) -> fmt::Result {
-        let Err(refusal) = self.0 else {
-            return f.write_str("ok");
-        };
-        let number = refusal.number();
-        let section = refusal.section();
-        let direction = refusal.direction_code();
-        let phase = refusal.phase_code();
-        write!(f, "no {number} {section} {direction} {phase}")
+        match self.0 {
+            Ok(()) => f.write_str("ok"),
+            Err(refusal) => write!(
+                f,
+                "no {} {} {} {}",
+                refusal.number(),
+                refusal.section(),
+                refusal.direction_code(),
+                refusal.phase_code()
+            ),
+        }
     }
 }
 
@@ -51,17 +64,26 @@ pub struct PhaseText(pub Result<Phase, InstrumentRefusal>);
 impl fmt::Display for PhaseText {
     fn fmt<W: fmt::Write>(&self, f: &mut fmt::Formatter<W>) -> fmt::Result {
         match self.0 {
-            Ok(phase) => {
-                let code = phase.code();
-                write!(f, "{code}")
-            }
+            Ok(phase) => write!(f, "{}", phase.code()),
             Err(_) => f.write_str("none"),
         }
     }
 }
 
-// Receiver, transmitter, trigger and control of the lower post, a space, the same of the upper post; w or r for each.
-// Nothing where there are no panes.
+// Receiver, transmitter, trigger and control of one post, bits 0 to 3; w or r for each.
+#[derive(Clone, Copy)]
+struct PostText(u8);
+
+impl fmt::Display for PostText {
+    fn fmt<W: fmt::Write>(&self, f: &mut fmt::Formatter<W>) -> fmt::Result {
+        for bit in 0..4u32 {
+            f.write_char(if self.0 >> bit & 1 == 1 { 'r' } else { 'w' })?;
+        }
+        Ok(())
+    }
+}
+
+// The panes of the lower post, a space, those of the upper post. Nothing where there are no panes.
 #[derive(Clone, Copy)]
 pub struct PaneText(pub Option<u8>);
 
@@ -70,13 +92,8 @@ impl fmt::Display for PaneText {
         let Some(panes) = self.0 else {
             return Ok(());
         };
-        f.write_str(", ")?;
-        for bit in 0..8u32 {
-            if bit == 4 {
-                f.write_char(' ')?;
-            }
-            f.write_char(if panes >> bit & 1 == 1 { 'r' } else { 'w' })?;
-        }
-        Ok(())
+        let lower = PostText(panes & 15);
+        let upper = PostText(panes >> 4);
+        write!(f, ", {lower} {upper}")
     }
 }

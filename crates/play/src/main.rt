@@ -12,23 +12,17 @@ fn play(rt: &HostRuntime) -> io::Result<()> {
     // One byte more than a sheet may have tells that it has too many, however long the input is.
     let mut input = rt.stdin().take(MOST_BYTES as u64 + 1);
     input.read_to_end(&mut sheet)?;
-    let mut answer = vec![in rt.alloc(); 0u8; MOST_ANSWER]?;
-    match play_sheet(&sheet, &mut answer) {
-        Ok(written) => rt.stdout().write_all(&answer[..written]),
-        Err(refusal) => {
-            let mut text = Book::new(&mut answer);
-            put_refusal(&mut text, refusal);
-            rt.stdout().write_all(text.filled())
-        }
-    }
+    let mut answer = [0u8; MOST_ANSWER];
+    let written = play_sheet(&sheet, &mut answer).unwrap_or_else(|refusal| {
+        let mut text = Book::new(&mut answer);
+        put_refusal(&mut text, refusal);
+        text.len()
+    });
+    rt.stdout().write_all(&answer[..written])
 }
 
 fn main(rt: HostRuntime) -> io::Result<()> {
-    match play(&rt) {
-        Ok(()) => Ok(()),
-        Err(error) => {
-            let _ = eprintln!(rt; "play: {error}");
-            Err(error)
-        }
-    }
+    play(&rt).inspect_err(|error| {
+        let _ = eprintln!(rt; "play: {error}");
+    })
 }

@@ -7,7 +7,7 @@ ghost use Rattle.block.specs.declared.order.Phase.TheVariants.{Rest};
 
 use block::instruments::BlockInstrument;
 use block::order::{Action, Direction, Phase};
-use block::refusals::{InstrumentRefusal, work};
+use block::refusals::{InstrumentRefusal, check_section, work};
 
 #[derive(Clone, Copy)]
 pub struct Pocket {
@@ -22,6 +22,7 @@ impl Pocket {
     }
 }
 
+#[tactic(auto, unfolding(block::specs::Meaning::phase_answer, block::specs::Meaning::answer, block::specs::Meaning::after))]
 impl BlockInstrument for Pocket {
     ghost phases = { λ s. s.phase ∷ [] };
 
@@ -32,12 +33,7 @@ impl BlockInstrument for Pocket {
     }
 
     fn phase(&self, section: u32) -> Result<Phase, InstrumentRefusal> {
-        if section > 0 {
-            return Err(InstrumentRefusal::NoSection {
-                section,
-                asked: None,
-            });
-        }
+        check_section(section, self.count(), None)?;
         Ok(self.phase)
     }
 
@@ -47,18 +43,8 @@ impl BlockInstrument for Pocket {
         section: u32,
         direction: Direction,
     ) -> Result<(), InstrumentRefusal> {
-        if section > 0 {
-            return Err(InstrumentRefusal::NoSection {
-                section,
-                asked: Some(direction),
-            });
-        }
-        match work(action, section, direction, self.phase) {
-            Ok(phase) => {
-                self.phase = phase;
-                Ok(())
-            }
-            Err(refusal) => Err(refusal),
-        }
+        check_section(section, self.count(), Some(direction))?;
+        self.phase = work(action, section, direction, self.phase)?;
+        Ok(())
     }
 }

@@ -1,6 +1,7 @@
 -- The reading of a whole line agrees with what is written of calls.
 use Rattle.std.proofs.Common.{◌≡◌, ℕ, suc, ◌+◌, ◌<◌, cond, List, [], ◌∷◌, ◌++◌, length, take, drop, Some, None, decimal, Option, sym, refl, ap, ◌∙◌, subst, ⊎_elim, append_assoc, arith, eq-eqb, ne_eqb}
 use Rattle.std.proofs.lemmas.Bool.{cases_eq}
+use Rattle.std.proofs.lemmas.Grind.{common_steps}
 use Rattle.block.specs.declared.order.Direction.{Direction}
 use Rattle.block.specs.declared.order.Direction.TheVariants.{Up}
 use Rattle.rules.specs.declared.calls.Call.{Call}
@@ -74,14 +75,9 @@ fields_built (OfSided f) bytes = refl
 line_built : (f : Form) (bytes : List ℕ) → form_line (Some f) bytes ≡ past 1 (mapped (λ v. build f v.1) (spaced f bytes))
 line_built f bytes = ap (past 1) (go (exactly space bytes))
   where
-    deeper : (u : Unit {0}) (n : ℕ) (o : Outcome (Values f))
-        → mapped (λ v. v.1) (past {A = Unit {0} × Call} n (mapped (λ b. (u, b)) (mapped (build f) o))) ≡ mapped (λ v. build f v.1) (past {A = Unit {0} × Values f} n (mapped (λ b. (u, b)) o))
-    deeper u n (Got v m) = refl
-    deeper u n (Stuck p) = refl
-
     go : (o : Outcome (Unit {0})) → mapped (λ v. v.1) (continued o (form_fields f) bytes) ≡ mapped (λ v. build f v.1) (continued o (values_read f) bytes)
     go (Stuck p) = refl
-    go (Got u n) = ap (λ r. mapped (λ v. v.1) (past {A = Unit {0} × Call} n (mapped (λ b. (u, b)) r))) (fields_built f (drop n bytes)) ∙ deeper u n (values_read f (drop n bytes))
+    go (Got u n) = grind (arith, common_steps, fields_built f (drop n bytes))
 
 -- THE LETTERS
 
@@ -156,18 +152,12 @@ entries = (
   ),
 )
 
-none_some : {X : Type 0} {x : X} → None ≡ Some x → ⊥
-none_some e = let z : ◌≡◌ {A = ℕ} 0 1 = cc in omega arith
-
-some_same : {X : Type 0} {x y : X} → Some x ≡ Some y → x ≡ y
-some_same e = cc
-
 entry_in : (es : List (ℕ × Form)) → Entries es → (x : ℕ) (f : Form) → form_in es x ≡ Some f → Entry x f
-entry_in [] all x f e = absurd (none_some e)
+entry_in [] all x f e = cc
 entry_in (h ∷ es) all x f e =
     ⊎_elim
     (λ same.
-    let found : h.1 ≡ f = some_same (sym (ap (λ t. cond t (Some h.1) (form_in es x)) (eq-eqb x h.0 same)) ∙ e) in
+    let found : h.1 ≡ f = let first = ap (λ t. cond t (Some h.1) (form_in es x)) (eq-eqb x h.0 same) in cc in
     subst (Entry x) found (subst (λ y. Entry y h.1) (sym same) all.0))
     (λ apart. entry_in es all.1 x f (sym (ap (λ t. cond t (Some h.1) (form_in es x)) (ne_eqb x h.0 apart)) ∙ e))
     (cases_eq x h.0)

@@ -1,6 +1,7 @@
 -- The reading of a number agrees with what is written.
-use Rattle.std.proofs.Common.{◌≡◌, ℕ, zero, suc, ◌+◌, ◌-◌, ◌*◌, ◌^◌, ◌<◌, ◌≤◌, Bool, true, false, cond, ◌&&◌, ltb, leb, ◌⊎◌, List, [], ◌∷◌, ◌++◌, length, get_or, take, drop, decimal, sym, refl, ap, ◌∙◌, subst, inl, inr, ⊎_elim, append_assoc, arith, length-append, length-take, ltb-true, lt-ltb, eq-eqb, ne_eqb, le-leb, leb-true}
-use Rattle.std.proofs.lemmas.Bool.{cases_eq, and_from}
+use Rattle.std.proofs.Common.{◌≡◌, ℕ, zero, suc, ◌+◌, ◌-◌, ◌*◌, ◌^◌, ◌<◌, ◌≤◌, true, false, cond, ◌&&◌, ltb, leb, ◌⊎◌, List, [], ◌∷◌, ◌++◌, length, get_or, take, drop, decimal, sym, refl, ap, ◌∙◌, subst, inl, inr, ⊎_elim, append_assoc, arith, length-append, length-take, ltb-true, le-leb, leb-true}
+use Rattle.std.proofs.lemmas.Bool.Decides.{nat_tests}
+use Rattle.std.proofs.lemmas.Bool.{cases_eq, cases_Bool, and_from, and_parts}
 use Rattle.std.proofs.lemmas.Fmt.{decimal_is_IsNumeral, decimal-digits_value, decimal_digit, first_decimal}
 use Rattle.std.proofs.lemmas.Str.Parse.{numerals_by_value, tells_digits, digit_from_value}
 use Rattle.std.proofs.lemmas.Str.{digit_value_digit}
@@ -11,14 +12,6 @@ use Rattle.reading.specs.Written.{Short}
 use Rattle.reading.specs.Grammar.{is_digit, may_grow, more_digits, number}
 use Rattle.reading.proofs.Lawful.{Lawful, Read, Ends, got_same, stuck_same, stuck_got, got_stuck}
 use Rattle.reading.proofs.Fields.{nothing_taken}
-
-and_true : (x y : Bool) → (x && y) ≡ true → (x ≡ true) × (y ≡ true)
-and_true true y e = (refl, e)
-and_true false y e = absurd (let z : ◌≡◌ {A = ℕ} 0 1 = cc in omega arith)
-
-either : (b : Bool) → (b ≡ true) ⊎ (b ≡ false)
-either true = inl refl
-either false = inr refl
 
 grows : (n : ℕ) (ds : List ℕ) → n ≤ digits_value_after 10 n ds
 grows n [] = omega arith
@@ -36,28 +29,22 @@ module _ (end : ℕ) (no_digit : end < 48) where
 
   digit_next : (n x : ℕ) → (x ≡ end → ⊥) → (may_grow n && is_digit x) ≡ true → Next n x
   digit_next n x apart e =
-      let both = and_true (may_grow n) (is_digit x) e in
-      let g = and_true (ltb 0 n) (ltb n 10000) both.0 in
-      let d = and_true (leb 48 x) (leb x 57) both.1 in
+      let both = and_parts (may_grow n) (is_digit x) e in
+      let g = and_parts (ltb 0 n) (ltb n 10000) both.0 in
+      let d = and_parts (leb 48 x) (leb x 57) both.1 in
       Grows apart (ltb-true 0 n g.0) (ltb-true n 10000 g.1) (leb-true 48 x d.0) (leb-true x 57 d.1)
 
   next : (n x : ℕ) → Next n x
-  next n x = ⊎_elim Closes (λ apart. ⊎_elim (digit_next n x apart) (Bars apart) (either (may_grow n && is_digit x))) (cases_eq x end)
+  next n x = ⊎_elim Closes (λ apart. ⊎_elim (digit_next n x apart) (Bars apart) (cases_Bool (may_grow n && is_digit x))) (cases_eq x end)
 
   at_end : (n x : ℕ) (xs : List ℕ) → x ≡ end → more_digits end n (x ∷ xs) ≡ Got n 1
-  at_end n x xs e = ap (λ t. cond t (Got n 1) (cond (may_grow n && is_digit x) (past 1 (more_digits end (n * 10 + (x - 48)) xs)) (Stuck 0))) (eq-eqb x end e)
-
-  past_end : (n x : ℕ) (xs : List ℕ) → (x ≡ end → ⊥) → more_digits end n (x ∷ xs) ≡ cond (may_grow n && is_digit x) (past 1 (more_digits end (n * 10 + (x - 48)) xs)) (Stuck 0)
-  past_end n x xs apart = ap (λ t. cond t (Got n 1) (cond (may_grow n && is_digit x) (past 1 (more_digits end (n * 10 + (x - 48)) xs)) (Stuck 0))) (ne_eqb x end apart)
+  at_end n x xs e = grind (arith, nat_tests)
 
   at_digit : (n x : ℕ) (xs : List ℕ) → (x ≡ end → ⊥) → 0 < n → n < 10000 → 48 ≤ x → x ≤ 57 → more_digits end n (x ∷ xs) ≡ past 1 (more_digits end (n * 10 + (x - 48)) xs)
-  at_digit n x xs apart a b c d =
-      past_end n x xs apart
-      ∙ ap (λ t. cond t (past 1 (more_digits end (n * 10 + (x - 48)) xs)) (Stuck 0))
-      (and_from (may_grow n) (is_digit x) (and_from (ltb 0 n) (ltb n 10000) (lt-ltb 0 n a) (lt-ltb n 10000 b)) (and_from (leb 48 x) (leb x 57) (le-leb 48 x c) (le-leb x 57 d)))
+  at_digit n x xs apart a b c d = grind (arith, nat_tests)
 
   at_bar : (n x : ℕ) (xs : List ℕ) → (x ≡ end → ⊥) → (may_grow n && is_digit x) ≡ false → more_digits end n (x ∷ xs) ≡ Stuck 0
-  at_bar n x xs apart e = past_end n x xs apart ∙ ap (λ t. cond t (past 1 (more_digits end (n * 10 + (x - 48)) xs)) (Stuck 0)) e
+  at_bar n x xs apart e = grind (arith, nat_tests)
 
   more_reads : (ds : List ℕ) (n : ℕ) → AllDigits 10 ds → digits_value_after 10 n ds < 100000 → (0 < length ds → 0 < n) → (rest : List ℕ)
       → more_digits end n (ds ++ end ∷ rest) ≡ Got (digits_value_after 10 n ds) (length ds + 1)
@@ -235,7 +222,7 @@ module _ (end : ℕ) (no_digit : end < 48) where
 
   number_got : (bytes : List ℕ) (m k : ℕ) → number end bytes ≡ Got m k → Read number_text Short bytes m k
   number_got [] m k h = absurd (stuck_got h)
-  number_got (x ∷ xs) m k h = go (either (is_digit x))
+  number_got (x ∷ xs) m k h = go (cases_Bool (is_digit x))
     where
       found : 48 ≤ x → x ≤ 57 → (m k : ℕ) → MoreRead (x - 48) xs m k → Read number_text Short (x ∷ xs) m (suc k)
       found low high m k r =
@@ -254,7 +241,7 @@ module _ (end : ℕ) (no_digit : end < 48) where
 
       go : (is_digit x ≡ true) ⊎ (is_digit x ≡ false) → Read number_text Short (x ∷ xs) m k
       go (inl t) =
-          let d = and_true (leb 48 x) (leb x 57) t in
+          let d = and_parts (leb 48 x) (leb x 57) t in
           let low = leb-true 48 x d.0 in
           let high = leb-true x 57 d.1 in
           after low high (more_digits end (x - 48) xs) refl (sym (first_digit x xs low high) ∙ h)
@@ -262,7 +249,7 @@ module _ (end : ℕ) (no_digit : end < 48) where
 
   number_stuck : (bytes : List ℕ) (p : ℕ) → number end bytes ≡ Stuck p → Ends (number end) number_text Short bytes p
   number_stuck [] p h = nothing_taken 0 (omega arith) [] p (sym (stuck_same h)) (λ l ys. absurd (omega arith))
-  number_stuck (x ∷ xs) p h = go (either (is_digit x))
+  number_stuck (x ∷ xs) p h = go (cases_Bool (is_digit x))
     where
       found : 48 ≤ x → x ≤ 57 → (q : ℕ) → MoreEnds (x - 48) xs q → Ends (number end) number_text Short (x ∷ xs) (suc q)
       found low high q r =
@@ -284,7 +271,7 @@ module _ (end : ℕ) (no_digit : end < 48) where
 
       go : (is_digit x ≡ true) ⊎ (is_digit x ≡ false) → Ends (number end) number_text Short (x ∷ xs) p
       go (inl t) =
-          let d = and_true (leb 48 x) (leb x 57) t in
+          let d = and_parts (leb 48 x) (leb x 57) t in
           let low = leb-true 48 x d.0 in
           let high = leb-true x 57 d.1 in
           after low high (more_digits end (x - 48) xs) refl (sym (first_digit x xs low high) ∙ h)

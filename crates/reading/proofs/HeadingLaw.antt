@@ -1,10 +1,10 @@
 -- A heading is read exactly where it is what is written of a good one.
-use Rattle.std.proofs.Common.{◌≡◌, ℕ, Bool, true, false, cond, ◌&&◌, eqb, leb, List, [], ◌∷◌, ◌++◌, length, drop, Some, None, decimal, Option, sym, refl, ap, ◌∙◌, subst, append_assoc, append-nil, arith, eq-eqb, ne_eqb, eqb-true, le-leb, leb-true}
+use Rattle.std.proofs.Common.{◌≡◌, ℕ, Bool, true, false, cond, eqb, List, [], ◌∷◌, ◌++◌, length, drop, Some, None, decimal, Option, sym, refl, ap, ◌∙◌, append_assoc, append-nil, arith, eqb-true}
 use lib.Seq.{drop-length}
 use borrow.Author.Tests.{eqb-false, both_ways}
-use Rattle.std.proofs.lemmas.Bool.{and_from, and_parts}
+use Rattle.std.proofs.lemmas.Bool.Decides.{nat_tests}
 use Rattle.reading.specs.Grammar.{exactly}
-use Rattle.reading.specs.Headings.{heading_letter, GoodHeading, written_heading, is_good, checked, heading_numbers, whole_heading, heading, HeadingAs, HeadingLaw}
+use Rattle.reading.specs.Headings.{heading_letter, GoodHeading, written_heading, is_good, whole_heading, heading, HeadingAs, HeadingLaw}
 use Rattle.reading.specs.Outcomes.{Outcome, Got, Stuck, mapped, both}
 use Rattle.reading.specs.Readers.{two_numbers}
 use Rattle.reading.specs.Written.{space, line_feed, Short}
@@ -12,7 +12,6 @@ use Rattle.reading.specs.declared.headings.Heading.{Heading}
 use Rattle.reading.proofs.Fields.{exactly_lawful}
 use Rattle.reading.proofs.Figures.{number_lawful}
 use Rattle.reading.proofs.Lawful.{Lawful, both_lawful, got_same, stuck_got}
-use Rattle.reading.proofs.Strides.{Strides}
 
 abbrev Values : Type 0
 Values = Unit {0} × (Unit {0} × (ℕ × ℕ))
@@ -40,15 +39,10 @@ unfolding written_heading
 written_is h = ap (λ l. heading_letter ∷ space ∷ l) (sym (append_assoc (decimal h.sections) (space ∷ []) (decimal h.interlocked ++ line_feed ∷ [])))
 
 good : (h : Heading) → is_good h ≡ true → GoodHeading h
-good h e =
-    let a = and_parts (leb 1 h.sections) (leb h.sections 16 && leb h.interlocked h.sections) e in
-    let b = and_parts (leb h.sections 16) (leb h.interlocked h.sections) a.1 in
-    record { some = leb-true 1 h.sections a.0; few = leb-true h.sections 16 b.0; within = leb-true h.interlocked h.sections b.1 }
+good h e = record { some = grind (arith, nat_tests); few = grind (arith, nat_tests); within = grind (arith, nat_tests) }
 
 good_back : (h : Heading) → GoodHeading h → is_good h ≡ true
-good_back h g =
-    and_from (leb 1 h.sections) (leb h.sections 16 && leb h.interlocked h.sections) (le-leb 1 h.sections g.some)
-    (and_from (leb h.sections 16) (leb h.interlocked h.sections) (le-leb h.sections 16 g.few) (le-leb h.interlocked h.sections g.within))
+good_back h g = grind (arith, nat_tests)
 
 abbrev values : Heading → Values
 values h = (tt, (tt, (h.sections, h.interlocked)))
@@ -97,45 +91,3 @@ back h g None l = absurd (l h g refl)
 
 pub heading_law : HeadingLaw
 heading_law = record { lawful = lawful; read_back = λ h g. back h g (heading (written_heading h)) (lawful (written_heading h)) }
-
--- WHAT THE CODE READS
-
-is_heading : (line : List ℕ) → whole_heading (heading_numbers line) (length line) ≡ heading line
-unfolding heading
-is_heading line = refl
-
--- what is read so is the heading of the line, as the law says
-pub record Lawfully (line : List ℕ) (r : Option Heading) : Type 0 where
-  pub value : r ≡ heading line
-  pub lawful : HeadingAs line r
-
-lawfully : (line : List ℕ) (r : Option Heading) → whole_heading (heading_numbers line) (length line) ≡ r → Lawfully line r
-lawfully line r e =
-    let value = sym e ∙ is_heading line in
-    record { value = value; lawful = subst (HeadingAs line) (sym value) (lawful line) }
-
-pub not_read : (line : List ℕ) (to : ℕ) → Strides (heading_numbers line) 0 None to → Lawfully line None
-not_read line to s = lawfully line None (go (heading_numbers line) s)
-  where
-    go : (o : Outcome (ℕ × ℕ)) → Strides o 0 None to → whole_heading o (length line) ≡ None
-    go (Got v n) s = absurd (let z : ◌≡◌ {A = ℕ} 0 1 = let e = s.value in cc in omega arith)
-    go (Stuck p) s = refl
-
-pub too_long : (line : List ℕ) (to s m : ℕ) → Strides (heading_numbers line) 0 (Some (s, m)) to → (to ≡ length line → ⊥) → Lawfully line None
-too_long line to s m t other = lawfully line None (go (heading_numbers line) t)
-  where
-    go : (o : Outcome (ℕ × ℕ)) → Strides o 0 (Some (s, m)) to → whole_heading o (length line) ≡ None
-    go (Got v n) t = ap (λ b. cond b (checked (record { sections = v.0; interlocked = v.1 })) None) (ne_eqb n (length line) (λ e. other (let p = t.place in omega arith)))
-    go (Stuck p) t = refl
-
-pub to_its_end : (line : List ℕ) (to s m : ℕ) → Strides (heading_numbers line) 0 (Some (s, m)) to → to ≡ length line → (fine : Bool)
-    → fine ≡ is_good (record { sections = s; interlocked = m }) → Lawfully line (cond fine (Some (record { sections = s; interlocked = m })) None)
-to_its_end line to s m t there fine is = lawfully line (cond fine (Some (record { sections = s; interlocked = m })) None) (go (heading_numbers line) t)
-  where
-    go : (o : Outcome (ℕ × ℕ)) → Strides o 0 (Some (s, m)) to → whole_heading o (length line) ≡ cond fine (Some (record { sections = s; interlocked = m })) None
-    go (Got v n) t =
-        let same : (s, m) ≡ v = let e = t.value in cc in
-        ap (λ b. cond b (checked (record { sections = v.0; interlocked = v.1 })) None) (eq-eqb n (length line) (let p = t.place in omega arith))
-        ∙ ap (λ w. checked (record { sections = w.0; interlocked = w.1 })) (sym same)
-        ∙ ap (λ b. cond b (Some (record { sections = s; interlocked = m })) None) (sym is)
-    go (Stuck p) t = absurd (let z : ◌≡◌ {A = ℕ} 0 1 = let e = t.value in cc in omega arith)

@@ -3,7 +3,7 @@ mod Fields
 mod Figures
 mod CallLines
 pub mod ReadingLaw
-mod Facing
+mod MoreDigits
 mod Strides
 mod CallLetters
 mod WholeLines

@@ -1,5 +1,5 @@
 -- The law of reading.
-use Rattle.std.proofs.Common.{◌≡◌, ℕ, zero, suc, ◌+◌, ◌<◌, ◌≤◌, cond, List, [], ◌++◌, length, take, drop, Ok, Err, Result, sym, refl, ap, ◌∙◌, subst, ⊎_elim, append_assoc, append-nil, arith, length-append, take-append-drop, length-take, take-take, eq-eqb, ne_eqb}
+use Rattle.std.proofs.Common.{◌≡◌, ℕ, ◌+◌, ◌<◌, ◌≤◌, cond, List, [], ◌++◌, length, take, drop, Ok, Err, Result, sym, refl, ap, ◌∙◌, subst, ⊎_elim, append_assoc, append-nil, arith, length-append, take-append-drop, length-take, take-take, eq-eqb, ne_eqb}
 use lib.Seq.{drop-length, take-append_seam, take-append-add}
 use Rattle.std.proofs.lemmas.Bool.{cases_eq}
 use Rattle.rules.specs.declared.calls.Call.{Call}
@@ -74,29 +74,8 @@ shorter line p q le b =
 not_before : (line : List ℕ) (p q : ℕ) → Unreadable line p → Unreadable line q → p < q → ⊥
 not_before line p q a b l = a.stops (omega (arith, b.within)) (shorter line (p + 1) q (omega arith) b.begins)
 
-data Sides (p q : ℕ) : Type 0 where
-  Before : p < q → Sides p q
-  Same : p ≡ q → Sides p q
-  After : q < p → Sides p q
-
-sides : (p q : ℕ) → Sides p q
-sides zero zero = Same refl
-sides zero (suc q) = Before (omega arith)
-sides (suc p) zero = After (omega arith)
-sides (suc p) (suc q) = up (sides p q)
-  where
-    up : Sides p q → Sides (suc p) (suc q)
-    up (Before l) = Before (omega arith)
-    up (Same e) = Same (ap suc e)
-    up (After l) = After (omega arith)
-
 one_place : (line : List ℕ) (p q : ℕ) → Unreadable line p → Unreadable line q → p ≡ q
-one_place line p q a b = go (sides p q)
-  where
-    go : Sides p q → p ≡ q
-    go (Before l) = absurd (not_before line p q a b l)
-    go (Same e) = e
-    go (After l) = absurd (not_before line q p b a l)
+one_place line p q a b = omega (arith, not_before line p q a b, not_before line q p b a)
 
 one_result : (line : List ℕ) (r s : Result Call ℕ) → ReadAs line r → ReadAs line s → r ≡ s
 one_result line (Ok c) (Ok d) a b = ap Ok (got_same (sym (reads_written c a.0) ∙ ap call_line (sym a.1 ∙ b.1) ∙ reads_written d b.0)).0

@@ -1,5 +1,6 @@
 pub mod Written
 pub mod Outcomes
+pub mod Places
 pub mod Grammar
 pub mod Law
 pub mod Readers

@@ -1,19 +1,19 @@
 -- What a reader goes over.
-use Rattle.std.specs.Prelude.{ℕ, List, [], ◌∷◌, drop, Some, None, Option}
+use Rattle.std.specs.Prelude.{◌≡◌, ℕ, cond, List, [], ◌∷◌, is_some, Some, None, Option, MatchOption}
 use Rattle.block.specs.declared.order.Direction.{Direction}
 use Rattle.reading.specs.Grammar.{exactly, number, direction}
+use Rattle.reading.specs.Places.{Place, onward}
 use Rattle.reading.specs.Outcomes.{Outcome, Got, Stuck, mapped, both}
 use Rattle.reading.specs.Written.{space, line_feed}
-use Rattle.reading.specs.declared.reader.Reader.{Reader}
-
--- the bytes that a reader has still to read
-abbrev pub ahead : Reader → List ℕ
-ahead r = drop r.at r.bytes.now
 
 -- the first byte
 abbrev pub front : List ℕ → Option ℕ
 front [] = None
 front (x ∷ xs) = Some x
+
+-- what is made of the first byte ahead is given, and the reader goes over that byte where something is
+abbrev pub ReadsByte : {A : Type 0} → (ℕ → Option A → Type 0) → Place → Option A → Place → Type 0
+ReadsByte makes old result new = MatchOption (front old.ahead) ((result ≡ None) × (new ≡ old)) (λ x. makes x result × (new ≡ onward (cond (is_some result) 1 0) old))
 
 -- one byte, whichever it is
 abbrev pub any_byte : List ℕ → Outcome ℕ

@@ -12,12 +12,8 @@ pub fn read_call(line: &[u8]) -> Result<Call, usize>
     ensures lawful { ReadAs line.now result }
 {
     let mut reader = Reader::new(line);
-    let Some(call) = reader.call() else {
-        return Err(reader.at);
-    };
-    if reader.at == line.len() {
-        Ok(call)
-    } else {
-        Err(reader.at)
+    match reader.call() {
+        Some(call) if reader.at() == line.len() => Ok(call),
+        _ => Err(reader.at()),
     }
 }

@@ -1,18 +1,16 @@
 // The lines of a sheet, one after the other.
 ghost use Rattle.std.specs.Prelude.{◌≡◌, length};
-ghost use Rattle.std.specs.Option.{option_map};
-ghost use Rattle.reading.specs.Lines.{lines, line_length, first_line, other_lines};
+ghost use Rattle.std.specs.Iterator.{YieldsFirstRef, item_count};
+ghost use Rattle.reading.specs.Lines.{lines, line_length};
 
 // How many bytes the first line has, its line feed among them.
 fn line_length(bytes: &[u8]) -> usize
     ensures { result ≡ line_length bytes.now }
 {
-    for i in 0..bytes.len() {
-        if bytes[i] == b'\n' {
-            return i + 1;
-        }
+    match bytes.iter().position(|byte| *byte == b'\n') {
+        Some(feed) => feed + 1,
+        None => bytes.len(),
     }
-    bytes.len()
 }
 
 // What is still to be read of a sheet.
@@ -34,12 +32,18 @@ impl<'a> Lines<'a> {
     {
         self.rest
     }
+}
 
-    // The next line, with the line feed that ends it; none at the end of the sheet.
-    pub fn next(&mut self) -> Option<&'a [u8]>
-        ensures line { option_map (λ x. x.now) result ≡ first_line (lines self.old.rest.now) }
-        ensures rest { lines self.new.rest.now ≡ other_lines (lines self.old.rest.now) }
-    {
+// Each line with the line feed that ends it.
+impl<'a> Iterator for Lines<'a> {
+    type Item = &'a [u8];
+
+    ghost next_gives = { YieldsFirstRef (λ s. lines s.rest.now) };
+
+    ghost remaining = { item_count (λ s. lines s.rest.now) };
+
+    #[tactic(auto, using(crate::proofs::Cutting::split, crate::proofs::Cutting::within))]
+    fn next(&mut self) -> Option<&'a [u8]> {
         if self.rest.is_empty() {
             return None;
         }
@@ -50,13 +54,9 @@ impl<'a> Lines<'a> {
 }
 
 // How many lines a sheet has.
+#[tactic(auto, using(crate::proofs::Cutting::few_lines))]
 pub fn count_lines(sheet: &[u8]) -> usize
     ensures { result ≡ length (lines sheet.now) }
 {
-    let mut lines = Lines::new(sheet);
-    let mut n: usize = 0;
-    while lines.next().is_some() {
-        n += 1;
-    }
-    n
+    Lines::new(sheet).count()
 }

@@ -1,119 +1,109 @@
 // A reader that goes over bytes from the front, and stands at the first that is not good.
-ghost use Rattle.std.specs.Prelude.{◌≡◌, ◌+◌, ◌<◌, length, OnSome};
-ghost use Rattle.reading.specs.Outcomes.{value_got, moved};
+ghost use Rattle.std.specs.Prelude.{◌≡◌};
 ghost use Rattle.reading.specs.Grammar.{exactly, digit, number, direction, call_line};
 ghost use Rattle.reading.specs.Headings.{heading_numbers};
-ghost use Rattle.reading.specs.Readers.{ahead, front, any_byte, heads, lettered, one_number, two_numbers, number_and_direction};
+ghost use Rattle.reading.specs.Places.{Reads};
+ghost use Rattle.reading.specs.Readers.{front, ReadsByte, any_byte, heads, lettered, one_number, two_numbers, number_and_direction};
 
 use block::order::Direction;
 use rules::calls::Call;
-
-// No digit may follow a zero that leads, nor a number of five digits.
-const LEADING_ZERO: u32 = 0;
-
-const MOST_BEFORE_A_DIGIT: u32 = 9_999;
+use std::marker::Model;
 
 #[derive(Drop)]
 pub struct Reader<'a> {
     bytes: &'a [u8],
-    pub(super) at: usize,
+    at: usize,
+}
+
+impl<'a> Model for Reader<'a> {
+    ghost use Rattle.std.specs.Prelude.{drop};
+    ghost use Rattle.reading.specs.Places.{Place};
+
+    ghost Value = { Place };
+
+    ghost view = { λ r. record { at = r.at; ahead = drop r.at r.bytes.now } };
 }
 
 impl<'a> Reader<'a> {
     pub fn new(bytes: &'a [u8]) -> Reader<'a>
-        ensures at { result.at ≡ 0 }
-        ensures bytes { result.bytes.now ≡ bytes.now }
+        ensures { result ≡ record { at = 0; ahead = bytes.now } }
     {
         Reader { bytes, at: 0 }
     }
 
+    // How many bytes it has gone over.
+    pub fn at(&self) -> usize
+        ensures { result ≡ self.now.at }
+    {
+        self.at
+    }
+
     // The byte that it stands at.
     fn byte(&self) -> Option<u8>
-        ensures value { result ≡ front (ahead self.now) }
-        ensures within { OnSome result (self.now.at < length self.now.bytes.now) }
+        ensures { result ≡ front self.now.ahead }
     {
-        if self.at < self.bytes.len() {
-            Some(self.bytes[self.at])
-        } else {
-            None
-        }
+        self.bytes.get(self.at).copied()
     }
 
-    // Goes over one byte, where it is this one.
-    fn take(&mut self, byte: u8) -> Option<()>
-        ensures value { result ≡ value_got (exactly byte (ahead self.old)) }
-        ensures stands { self.new.at ≡ self.old.at + moved (exactly byte (ahead self.old)) }
-        ensures kept { self.new.bytes ≡ self.old.bytes }
+    // Goes over one byte, where `read` makes something of it.
+    fn read_byte<T, F: FnOnce(u8) -> Option<T>>(&mut self, read: F) -> Option<T>
+        requires { F.IsAlwaysCallable read }
+        ensures { ReadsByte (F.post read) self.old result self.new }
     {
-        let found = self.byte()?;
-        if found != byte {
-            return None;
-        }
+        let value = read(self.byte()?)?;
         self.at += 1;
-        Some(())
-    }
-
-    // Goes over one digit.
-    fn digit(&mut self) -> Option<u32>
-        ensures value { result ≡ value_got (digit (ahead self.old)) }
-        ensures stands { self.new.at ≡ self.old.at + moved (digit (ahead self.old)) }
-        ensures kept { self.new.bytes ≡ self.old.bytes }
-    {
-        let found = self.byte()?;
-        if !found.is_ascii_digit() {
-            return None;
-        }
-        self.at += 1;
-        Some(u32::from(found - b'0'))
-    }
-
-    // Goes over a number and the byte that ends it: one to five digits, no leading zero.
-    fn number(&mut self, end: u8) -> Option<u32>
-        ensures value { result ≡ value_got (number end (ahead self.old)) }
-        ensures stands { self.new.at ≡ self.old.at + moved (number end (ahead self.old)) }
-        ensures kept { self.new.bytes ≡ self.old.bytes }
-    {
-        let mut n = self.digit()?;
-        while self.take(end).is_none() {
-            if n == LEADING_ZERO || n > MOST_BEFORE_A_DIGIT {
-                return None;
-            }
-            let digit = self.digit()?;
-            n = n * 10 + digit;
-        }
-        Some(n)
-    }
-
-    fn direction(&mut self) -> Option<Direction>
-        ensures value { result ≡ value_got (direction (ahead self.old)) }
-        ensures stands { self.new.at ≡ self.old.at + moved (direction (ahead self.old)) }
-        ensures kept { self.new.bytes ≡ self.old.bytes }
-    {
-        let direction = match self.byte()? {
-            b'u' => Direction::Up,
-            b'd' => Direction::Down,
-            _ => return None,
-        };
-        self.at += 1;
-        Some(direction)
+        Some(value)
     }
 
     // Goes over one byte, whichever it is.
     fn letter(&mut self) -> Option<u8>
-        ensures value { result ≡ value_got (any_byte (ahead self.old)) }
-        ensures stands { self.new.at ≡ self.old.at + moved (any_byte (ahead self.old)) }
-        ensures kept { self.new.bytes ≡ self.old.bytes }
+        ensures { Reads any_byte self.old result self.new }
     {
-        let letter = self.byte()?;
-        self.at += 1;
-        Some(letter)
+        self.read_byte(Some)
+    }
+
+    // Goes over one byte, where it is this one.
+    fn take(&mut self, byte: u8) -> Option<()>
+        ensures { Reads (exactly byte) self.old result self.new }
+    {
+        self.read_byte(|found| (found == byte).then_some(()))
+    }
+
+    // Goes over one digit.
+    fn digit(&mut self) -> Option<u32>
+        ensures { Reads digit self.old result self.new }
+    {
+        self.read_byte(|found| found.is_ascii_digit().then(|| u32::from(found - b'0')))
+    }
+
+    // Goes over a number and the byte that ends it: one to five digits, no leading zero.
+    fn number(&mut self, end: u8) -> Option<u32>
+        ensures { Reads (number end) self.old result self.new }
+    {
+        let mut number = self.digit()?;
+        while self.take(end).is_none() {
+            // No digit may follow a zero that leads, nor a number of five digits.
+            if !(1..=9_999).contains(&number) {
+                return None;
+            }
+            number = number * 10 + self.digit()?;
+        }
+        Some(number)
+    }
+
+    fn direction(&mut self) -> Option<Direction>
+        ensures { Reads direction self.old result self.new }
+    {
+        self.read_byte(|found| match found {
+            b'u' => Some(Direction::Up),
+            b'd' => Some(Direction::Down),
+            _ => None,
+        })
     }
 
     // Goes over a letter and the space after it.
     fn head(&mut self) -> Option<()>
-        ensures value { result ≡ value_got (heads (ahead self.old)) }
-        ensures stands { self.new.at ≡ self.old.at + moved (heads (ahead self.old)) }
-        ensures kept { self.new.bytes ≡ self.old.bytes }
+        ensures { Reads heads self.old result self.new }
     {
         self.letter()?;
         self.take(b' ')
@@ -121,9 +111,7 @@ impl<'a> Reader<'a> {
 
     // Goes over a letter and one number, up to the end of the line.
     fn one(&mut self) -> Option<u32>
-        ensures value { result ≡ value_got (lettered one_number (ahead self.old)) }
-        ensures stands { self.new.at ≡ self.old.at + moved (lettered one_number (ahead self.old)) }
-        ensures kept { self.new.bytes ≡ self.old.bytes }
+        ensures { Reads (lettered one_number) self.old result self.new }
     {
         self.head()?;
         self.number(b'\n')
@@ -131,9 +119,7 @@ impl<'a> Reader<'a> {
 
     // Goes over two numbers, up to the end of the line.
     fn two_numbers(&mut self) -> Option<(u32, u32)>
-        ensures value { result ≡ value_got (two_numbers (ahead self.old)) }
-        ensures stands { self.new.at ≡ self.old.at + moved (two_numbers (ahead self.old)) }
-        ensures kept { self.new.bytes ≡ self.old.bytes }
+        ensures { Reads two_numbers self.old result self.new }
     {
         let first = self.number(b' ')?;
         let second = self.number(b'\n')?;
@@ -142,9 +128,7 @@ impl<'a> Reader<'a> {
 
     // Goes over a letter and two numbers.
     fn two(&mut self) -> Option<(u32, u32)>
-        ensures value { result ≡ value_got (lettered two_numbers (ahead self.old)) }
-        ensures stands { self.new.at ≡ self.old.at + moved (lettered two_numbers (ahead self.old)) }
-        ensures kept { self.new.bytes ≡ self.old.bytes }
+        ensures { Reads (lettered two_numbers) self.old result self.new }
     {
         self.head()?;
         self.two_numbers()
@@ -152,9 +136,7 @@ impl<'a> Reader<'a> {
 
     // Goes over the letter of a heading and its two numbers.
     pub fn heading(&mut self) -> Option<(u32, u32)>
-        ensures value { result ≡ value_got (heading_numbers (ahead self.old)) }
-        ensures stands { self.new.at ≡ self.old.at + moved (heading_numbers (ahead self.old)) }
-        ensures kept { self.new.bytes ≡ self.old.bytes }
+        ensures { Reads heading_numbers self.old result self.new }
     {
         self.take(b'I')?;
         self.take(b' ')?;
@@ -163,9 +145,7 @@ impl<'a> Reader<'a> {
 
     // Goes over a letter, a number and a direction.
     fn sided(&mut self) -> Option<(u32, Direction)>
-        ensures value { result ≡ value_got (lettered number_and_direction (ahead self.old)) }
-        ensures stands { self.new.at ≡ self.old.at + moved (lettered number_and_direction (ahead self.old)) }
-        ensures kept { self.new.bytes ≡ self.old.bytes }
+        ensures { Reads (lettered number_and_direction) self.old result self.new }
     {
         self.head()?;
         let number = self.number(b' ')?;
@@ -176,68 +156,49 @@ impl<'a> Reader<'a> {
 
     // Goes over a call: its letter and the fields that the letter asks for.
     pub fn call(&mut self) -> Option<Call>
-        ensures value { result ≡ value_got (call_line (ahead self.old)) }
-        ensures stands { self.new.at ≡ self.old.at + moved (call_line (ahead self.old)) }
-        ensures kept { self.new.bytes ≡ self.old.bytes }
+        ensures { Reads call_line self.old result self.new }
     {
-        let letter = self.byte()?;
-        match char::from(letter) {
-            'N' => {
-                let (train, post) = self.two()?;
-                Some(Call::PlaceTrain { train, post })
-            }
-            'W' => {
-                let train = self.one()?;
-                Some(Call::WithdrawTrain { train })
-            }
-            'G' => {
-                let (section, direction) = self.sided()?;
-                Some(Call::GiveRelease { section, direction })
-            }
-            'O' => {
-                let (section, direction) = self.sided()?;
-                Some(Call::OpenSignal { section, direction })
-            }
-            'F' => {
-                let (section, direction) = self.sided()?;
-                Some(Call::CloseSignal { section, direction })
-            }
-            'E' => {
-                let (train, section) = self.two()?;
-                Some(Call::EnterSection { train, section })
-            }
-            'R' => {
-                let (section, direction) = self.sided()?;
-                Some(Call::ReturnRelease { section, direction })
-            }
-            'H' => {
-                let (section, direction) = self.sided()?;
-                Some(Call::OpenHome { section, direction })
-            }
-            'S' => {
-                let (section, direction) = self.sided()?;
-                Some(Call::ShutHome { section, direction })
-            }
-            'T' => {
-                let (train, section) = self.two()?;
-                Some(Call::ReachPedal { train, section })
-            }
-            'L' => {
-                let (train, section) = self.two()?;
-                Some(Call::LeaveSection { train, section })
-            }
-            'D' => {
-                let (section, direction) = self.sided()?;
-                Some(Call::ClearSection { section, direction })
-            }
-            'U' => {
-                let (section, direction) = self.sided()?;
-                Some(Call::UnsealSection { section, direction })
-            }
-            'Z' => {
-                let (section, direction) = self.sided()?;
-                Some(Call::RestoreSection { section, direction })
-            }
+        match char::from(self.byte()?) {
+            'N' => self
+                .two()
+                .map(|(train, post)| Call::PlaceTrain { train, post }),
+            'W' => self.one().map(|train| Call::WithdrawTrain { train }),
+            'G' => self.sided().map(|(section, direction)| Call::GiveRelease {
+                section,
+                direction,
+            }),
+            'O' => self.sided().map(|(section, direction)| Call::OpenSignal { section, direction }),
+            'F' => self.sided().map(|(section, direction)| Call::CloseSignal {
+                section,
+                direction,
+            }),
+            'E' => self
+                .two()
+                .map(|(train, section)| Call::EnterSection { train, section }),
+            'R' => self.sided().map(|(section, direction)| Call::ReturnRelease {
+                section,
+                direction,
+            }),
+            'H' => self.sided().map(|(section, direction)| Call::OpenHome { section, direction }),
+            'S' => self.sided().map(|(section, direction)| Call::ShutHome { section, direction }),
+            'T' => self
+                .two()
+                .map(|(train, section)| Call::ReachPedal { train, section }),
+            'L' => self
+                .two()
+                .map(|(train, section)| Call::LeaveSection { train, section }),
+            'D' => self.sided().map(|(section, direction)| Call::ClearSection {
+                section,
+                direction,
+            }),
+            'U' => self.sided().map(|(section, direction)| Call::UnsealSection {
+                section,
+                direction,
+            }),
+            'Z' => self.sided().map(|(section, direction)| Call::RestoreSection {
+                section,
+                direction,
+            }),
             _ => None,
         }
     }

@@ -1,5 +1,5 @@
 -- When each call is refused: its checks, in their order; the first that fails gives the refusal.
-use Rattle.std.specs.Prelude.{ℕ, Bool, true, false, not, ◌||◌, List, [], ◌∷◌, ◌++◌, is_some, Some, None, Option, nat_le, nat_lt}
+use Rattle.std.specs.Prelude.{ℕ, Bool, true, false, not, ◌||◌, List, [], ◌∷◌, ◌++◌, is_some, Some, None, Ok, Err, Option, Result, nat_le, nat_lt}
 use Rattle.block.specs.Meaning.{answer}
 use Rattle.block.specs.declared.order.Action.{Action}
 use Rattle.block.specs.declared.order.Direction.{Direction}
@@ -24,6 +24,11 @@ abbrev pub first_refusal : List (Option LineRefusal) → Option LineRefusal
 first_refusal [] = None
 first_refusal (None ∷ os) = first_refusal os
 first_refusal (Some r ∷ os) = Some r
+
+-- the answer that a refusal gives, or its lack
+abbrev pub told : Option LineRefusal → Result (Unit {0}) LineRefusal
+told None = Ok tt
+told (Some e) = Err e
 
 -- 201, 202
 abbrev pub unfit : Condition → Option LineRefusal

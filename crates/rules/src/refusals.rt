@@ -1,6 +1,6 @@
 // What the line says where it refuses.
 ghost use Rattle.std.specs.Prelude.{◌≡◌};
-ghost use Rattle.rules.specs.Checks.{unfit};
+ghost use Rattle.rules.specs.Checks.{unfit, told};
 ghost use Rattle.rules.specs.Numbers.{line_number};
 ghost use Rattle.rules.specs.declared.refusals.LineRefusal.TheVariants.{Instrument};
 
@@ -30,6 +30,7 @@ pub enum LineRefusal {
 }
 
 impl LineRefusal {
+    // The number that an answer tells.
     pub fn number(self) -> u16
         ensures { result ≡ line_number self }
     {
@@ -52,6 +53,7 @@ impl LineRefusal {
     }
 }
 
+// Written out and not derived: a derive would not promise which case it makes.
 impl From<InstrumentRefusal> for LineRefusal {
     ghost from_gives = { λ e r. r ≡ Instrument e };
 
@@ -61,13 +63,14 @@ impl From<InstrumentRefusal> for LineRefusal {
 }
 
 impl Condition {
-    pub fn unfit(self) -> Option<LineRefusal>
-        ensures { result ≡ unfit self }
+    // A line that is not sound works no call.
+    pub fn check(self) -> Result<(), LineRefusal>
+        ensures { result ≡ told (unfit self) }
     {
         match self {
-            Condition::Sound => None,
-            Condition::Sectionless => Some(LineRefusal::NoSectionAtAll),
-            Condition::Unsettled => Some(LineRefusal::MadeUnsettled),
+            Condition::Sound => Ok(()),
+            Condition::Sectionless => Err(LineRefusal::NoSectionAtAll),
+            Condition::Unsettled => Err(LineRefusal::MadeUnsettled),
         }
     }
 }

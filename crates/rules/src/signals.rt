@@ -25,7 +25,8 @@ pub struct Signals {
     pub home: HomeSignal,
 }
 
-// The pedal mark is set once a train has cleared the insulated rail at the section's exit.
+// The pedal mark is set once a train has cleared the insulated rail at the section's exit. It tells of the pedal, and not whether
+// another field counts.
 #[derive(Clone, Copy)]
 pub struct SectionState {
     pub up: Signals,
@@ -33,7 +34,8 @@ pub struct SectionState {
     pub pedal: bool,
 }
 
-// Whether the line can be worked: it was made over some section, and over an instrument at rest.
+// Whether the line can be worked: it was made over some section, and over an instrument at rest. A state that the line keeps, and
+// not the answer to a call, which `check` makes of it.
 #[derive(Clone, Copy)]
 pub enum Condition {
     Sound,
@@ -92,13 +94,11 @@ impl SectionState {
         match direction {
             Direction::Up => SectionState {
                 up: signals,
-                down: self.down,
-                pedal: self.pedal,
+                ..self
             },
             Direction::Down => SectionState {
-                up: self.up,
                 down: signals,
-                pedal: self.pedal,
+                ..self
             },
         }
     }
@@ -106,24 +106,20 @@ impl SectionState {
     pub fn with_block(self, direction: Direction, block: BlockSignal) -> SectionState
         ensures { result ≡ with_block direction block self }
     {
-        let home = self.signals(direction).home;
-        self.with_signals(direction, Signals { block, home })
+        let signals = self.signals(direction);
+        self.with_signals(direction, Signals { block, ..signals })
     }
 
     pub fn with_home(self, direction: Direction, home: HomeSignal) -> SectionState
         ensures { result ≡ with_home direction home self }
     {
-        let block = self.signals(direction).block;
-        self.with_signals(direction, Signals { block, home })
+        let signals = self.signals(direction);
+        self.with_signals(direction, Signals { home, ..signals })
     }
 
     pub fn with_pedal(self, pedal: bool) -> SectionState
         ensures { result ≡ with_pedal pedal self }
     {
-        SectionState {
-            up: self.up,
-            down: self.down,
-            pedal,
-        }
+        SectionState { pedal, ..self }
     }
 }

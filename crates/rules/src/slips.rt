@@ -15,7 +15,15 @@ pub struct SealRow {
     pub row: usize,
 }
 
-// Handed out by the line for an accepted unsealing. It has to be entered: while it is owed it cannot be let go.
+// What fills the slice that is lent to a seal book, before any row is entered.
+pub const BLANK_SEAL: SealRow = SealRow {
+    section: 0,
+    direction: Direction::Up,
+    row: 0,
+};
+
+// Handed out by the line for an accepted unsealing. It has to be entered: while it is owed it cannot be let go, and `owed` is what
+// the contract of its drop asks for.
 pub struct Slip {
     section: u32,
     direction: Direction,
@@ -50,26 +58,21 @@ impl Slip {
     }
 
     // Enters the slip into the seal book; a full book gives it back, still owed.
-    pub fn enter(self, row: usize, seals: &mut Book<'_, SealRow>) -> Result<(), Slip>
+    pub fn enter(mut self, row: usize, seals: &mut Book<'_, SealRow>) -> Result<(), Slip>
         ensures answered { result ≡ enter_answer seals.old.len seals.old.rows.now self }
         ensures rows { entered seals.new.len seals.new.rows.now ≡ add_rows seals.old.len seals.old.rows.now (seal_row_of self row) }
         ensures room { length seals.new.rows.now ≡ length seals.old.rows.now }
     {
+        // Field by field: the row has one that the slip has not.
         let entry = SealRow {
             section: self.section,
             direction: self.direction,
             row,
         };
-        match seals.add(entry) {
-            Ok(()) => {
-                let Slip {
-                    section: _,
-                    direction: _,
-                    owed: _,
-                } = self;
-                Ok(())
-            }
-            Err(_) => Err(self),
+        if seals.add(entry).is_err() {
+            return Err(self);
         }
+        self.owed = false;
+        Ok(())
     }
 }

@@ -1,5 +1,5 @@
 -- How the turn of a sheet begins.
-use Rattle.std.proofs.Common.{◌≡◌, ℕ, zero, suc, ◌+◌, ◌-◌, ◌≤◌, min, true, cond, List, [], ◌++◌, length, take, replicate, refl, ap, ◌∙◌, arith, length-take, take_all, ne_eqb}
+use Rattle.std.proofs.Common.{◌≡◌, ℕ, zero, suc, ◌+◌, ◌-◌, ◌≤◌, min, true, cond, List, [], ◌++◌, length, take, replicate, refl, ap, ◌∙◌, arith, take_all, ne_eqb}
 use lib.ListN.{length-replicate, replicate-append-replicate}
 use Rattle.block.specs.declared.order.Phase.{Phase}
 use Rattle.block.specs.declared.order.Phase.TheVariants.{Rest}
@@ -41,6 +41,3 @@ begins_new h g = record { sections = h.sections; some = g.some; few = g.few; is 
 
 pub empty_book : {Row : Type 0} (b : lent.Book Row) (rows : List Row) (n : ℕ) → b.len ≡ 0 → b.rows.now ≡ rows → length rows ≡ n → book_of b ≡ record { rows = []; room = n }
 empty_book b rows n none is long = λ i. record { rows = (ap (λ k. take k b.rows.now) none) i; room = (ap length is ∙ long) i }
-
-pub few_rows : {Row : Type 0} (b : lent.Book Row) (n : ℕ) → (book_of b).room ≡ n → length (book_of b).rows ≤ n
-few_rows b n e = omega (arith, length-take b.len b.rows.now, e)

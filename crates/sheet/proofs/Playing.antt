@@ -1,9 +1,8 @@
 -- One line more of a sheet that is played.
-use Rattle.std.proofs.Common.{◌≡◌, ℕ, suc, ◌+◌, List, [], ◌∷◌, Some, None, Ok, Err, Result, sym, refl, ap, ◌∙◌, arith}
+use Rattle.std.proofs.Common.{◌≡◌, ℕ, suc, ◌+◌, List, [], ◌∷◌, Ok, Err, Result, sym, refl, ap, ◌∙◌, arith}
 use Rattle.answers.specs.Texts.{told_text}
 use Rattle.answers.specs.declared.refusals.SheetRefusal.{SheetRefusal}
 use Rattle.reading.specs.Grammar.{reading}
-use Rattle.reading.specs.Lines.{first_line, other_lines}
 use Rattle.rules.specs.declared.calls.Call.{Call}
 use Rattle.turn.specs.Turn.{TurnState, run}
 use Rattle.writing.specs.Facts.{wrote_twice, wrote_nothing}
@@ -13,14 +12,6 @@ use Rattle.sheet.specs.Played.{before, readable, told, after, numbered, line_ans
 run_read : (t : TurnState) (r : Result Call ℕ) (cs : List Call) → run t (before r cs) ≡ run (after t r) cs
 run_read t (Ok c) cs = refl
 run_read t (Err place) cs = refl
-
-pub opened : (ls ms : List (List ℕ)) (l : List ℕ) → Some l ≡ first_line ls → ms ≡ other_lines ls → ls ≡ l ∷ ms
-opened [] ms l first others = absurd (let z : ◌≡◌ {A = ℕ} 0 1 = cc in omega arith)
-opened (k ∷ ks) ms l first others = let same : l ≡ k = cc in (λ i. sym same i ∷ sym others i)
-
-pub ended : (ls : List (List ℕ)) → None ≡ first_line ls → ls ≡ []
-ended [] e = refl
-ended (l ∷ ls) e = absurd (let z : ◌≡◌ {A = ℕ} 0 1 = cc in omega arith)
 
 -- the lines here are l and then ms; t is the turn before l, and u the one after it
 module _ (ls ms : List (List ℕ)) (l : List ℕ) (cut : ls ≡ l ∷ ms) (t u : TurnState) (next : u ≡ after t (reading l)) where

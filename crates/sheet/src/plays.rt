@@ -5,81 +5,63 @@ ghost use Rattle.reading.specs.Lines.{lines};
 ghost use Rattle.sheet.specs.Played.{readable, told, after, numbered, line_answers};
 ghost use Rattle.turn.specs.Law.{TurnLaw};
 ghost use Rattle.turn.specs.Turn.{run};
-ghost use Rattle.turn.specs.Turns.{turn_of, New};
-ghost use Rattle.writing.specs.Pens.{pen_of, wrote};
+ghost use Rattle.turn.specs.Turns.{New};
+ghost use Rattle.writing.specs.Pens.{Writes};
 
 use answers::refusals::{RefusedLine, SheetLineRefusal, SheetRefusal};
 use answers::texts::put_told;
 use block::instruments::BlockInstrument;
 use book::Book;
-use line::lines::Line;
 use reading::calls::read_call;
 use reading::lines::Lines;
-use rules::slips::SealRow;
-use turn::rows::RegisterRow;
-use turn::turns::work;
+use turn::turns::Turn;
 
 // The heading is line 1.
 const FIRST_AFTER_HEADING: usize = 2;
 
 // Reads a line and works its call. A refused line changes nothing.
 pub fn work_line<I: BlockInstrument>(
-    line: &mut Line<I>,
-    register: &mut Book<'_, RegisterRow>,
-    seals: &mut Book<'_, SealRow>,
+    turn: &mut Turn<'_, I>,
     text: &[u8],
 ) -> Result<(), SheetLineRefusal>
-    ensures answered { result ≡ told (turn_of I.phases line.old register.old seals.old) (reading text.now) }
-    ensures followed { turn_of I.phases line.new register.new seals.new ≡ after (turn_of I.phases line.old register.old seals.old) (reading text.now) }
+    ensures answered { result ≡ told turn.old (reading text.now) }
+    ensures followed { turn.new ≡ after turn.old (reading text.now) }
 {
-    match read_call(text) {
-        Ok(call) => {
-            work(line, register, seals, call)?;
-            Ok(())
-        }
-        Err(place) => Err(SheetLineRefusal::Unreadable { place }),
-    }
+    let call = read_call(text).map_err(|place| SheetLineRefusal::Unreadable { place })?;
+    turn.work(call)?;
+    Ok(())
 }
 
 // The same, with the line's number in its refusal.
 pub fn play_line<I: BlockInstrument>(
-    line: &mut Line<I>,
-    register: &mut Book<'_, RegisterRow>,
-    seals: &mut Book<'_, SealRow>,
+    turn: &mut Turn<'_, I>,
     number: usize,
     text: &[u8],
 ) -> Result<(), SheetRefusal>
-    ensures answered { result ≡ numbered number (told (turn_of I.phases line.old register.old seals.old) (reading text.now)) }
-    ensures followed { turn_of I.phases line.new register.new seals.new ≡ after (turn_of I.phases line.old register.old seals.old) (reading text.now) }
+    ensures answered { result ≡ numbered number (told turn.old (reading text.now)) }
+    ensures followed { turn.new ≡ after turn.old (reading text.now) }
 {
-    match work_line(line, register, seals, text) {
-        Ok(()) => Ok(()),
-        Err(refusal) => Err(SheetRefusal::from(RefusedLine {
+    work_line(turn, text).map_err(|refusal| {
+        SheetRefusal::from(RefusedLine {
             line: number,
             refusal,
-        })),
-    }
+        })
+    })
 }
 
 // Plays the lines that follow a heading, and answers each. The turn is then the run of the readable calls, so that the law of
 // every turn holds of one that began new.
 pub fn play_lines<I: BlockInstrument>(
-    line: &mut Line<I>,
-    register: &mut Book<'_, RegisterRow>,
-    seals: &mut Book<'_, SealRow>,
+    turn: &mut Turn<'_, I>,
     sheet: &[u8],
     answer: &mut Book<'_, u8>,
 )
-    ensures played { turn_of I.phases line.new register.new seals.new ≡ run (turn_of I.phases line.old register.old seals.old) (readable (lines sheet.now)) }
-    ensures answered { pen_of answer.new ≡ wrote (line_answers 2 (turn_of I.phases line.old register.old seals.old) (lines sheet.now)) (pen_of answer.old) }
-    ensures lawful { New (turn_of I.phases line.old register.old seals.old) → TurnLaw (turn_of I.phases line.old register.old seals.old) (readable (lines sheet.now)) }
-    ensures lender { answer.new.rows.ghost_name ≡ answer.old.rows.ghost_name }
+    ensures played { turn.new ≡ run turn.old (readable (lines sheet.now)) }
+    ensures answered { Writes (line_answers 2 turn.old (lines sheet.now)) answer.old answer.new }
+    ensures lawful { New turn.old → TurnLaw turn.old (readable (lines sheet.now)) }
 {
-    let mut lines = Lines::new(sheet);
-    let mut number: usize = FIRST_AFTER_HEADING;
-    while let Some(text) = lines.next() {
-        let told = play_line(line, register, seals, number, text);
+    for (text, number) in Lines::new(sheet).zip(FIRST_AFTER_HEADING..) {
+        let told = play_line(turn, number, text);
         put_told(answer, number, told);
-        number += 1;
     }
 }

@@ -39,12 +39,8 @@ pub fn play_sheet(sheet: &[u8], answer: &mut [u8]) -> Result<usize, SheetRefusal
         return Err(SheetRefusal::ShortBuffer);
     }
     let mut lines = Lines::new(sheet);
-    let Some(first) = lines.next() else {
-        return Err(SheetRefusal::BadHeading);
-    };
-    let Some(heading) = read_heading(first) else {
-        return Err(SheetRefusal::BadHeading);
-    };
+    let first = lines.next().ok_or(SheetRefusal::BadHeading)?;
+    let heading = read_heading(first).ok_or(SheetRefusal::BadHeading)?;
     let mut written = Book::new(answer);
     play_turn(heading, lines.rest(), &mut written);
     Ok(written.len())

@@ -4,21 +4,20 @@
 
 use crate::texts::{AnswerText, CallText};
 use block::instruments::BlockInstrument;
-use block::order::Direction;
+use block::order::{Direction, Phase};
+use block::refusals::InstrumentRefusal;
 use book::Book;
 use line::lines::Line;
 use makes::interlocked::Interlocked;
 use makes::piles::MixedPile;
-use makes::sections::SectionRecord;
 use makes::telephone::Telephone;
 use pocket::Pocket;
 use rules::calls::Call;
-use rules::slips::SealRow;
+use rules::slips::BLANK_SEAL;
 use std::io;
-use turn::plays::play;
-use turn::refusals::TurnRefusal;
-use turn::rows::{Kind, RegisterRow};
+use turn::rows::BLANK_ROW;
 use turn::tallies::tally;
+use turn::turns::Turn;
 
 mod texts;
 
@@ -107,54 +106,43 @@ const CALLS: [Call; 20] = [
     Call::WithdrawTrain { train: 3020 },
 ];
 
-const BLANK_ROW: RegisterRow = RegisterRow {
-    kind: Kind::Placing,
-    train: None,
-    section: None,
-    direction: None,
-    post: None,
-};
-
-const BLANK_SEAL: SealRow = SealRow {
-    section: 0,
-    direction: UP,
-    row: 0,
-};
-
+// The phase, the train inside or 0, and the tally; where there is no phase, what its refusal has in the place of one.
 fn print_section<I: BlockInstrument>(
     rt: &impl Print,
-    line: &Line<I>,
-    register: &Book<'_, RegisterRow>,
+    turn: &Turn<'_, I>,
     section: u32,
 ) -> io::Result<()> {
-    let phase = match line.phase(section) {
-        Ok(phase) => phase.code(),
-        Err(refusal) => refusal.phase_code(),
-    };
-    let train = line.train_inside(section).unwrap_or(0);
-    let (givings, leavings, unsealings) = tally(register, section);
+    let phase = turn
+        .line()
+        .phase(section)
+        .map_or_else(InstrumentRefusal::phase_code, Phase::code);
+    let train = turn.line().train_inside(section).unwrap_or(0);
+    let (givings, leavings, unsealings) = tally(turn.register(), section);
     println!(rt; "  s {section} {phase} {train} {givings} {leavings} {unsealings}")
 }
 
-fn print_turn<I: BlockInstrument>(rt: &impl Print, make: &str, instrument: I) -> io::Result<()>
-where
-    I: Drop,
-{
+fn print_turn<I: BlockInstrument + Drop>(
+    rt: &impl Print,
+    make: &str,
+    instrument: I,
+) -> io::Result<()> {
     println!(rt; "{make}")?;
-    let mut line = Line::new(instrument);
     let mut rows = [BLANK_ROW; 32];
-    let mut register = Book::new(&mut rows);
     let mut slips = [BLANK_SEAL; 2];
-    let mut seals = Book::new(&mut slips);
-    let mut told: [Result<(), TurnRefusal>; 20] = [Ok(()); 20];
-    let worked = play(&mut line, &mut register, &mut seals, &CALLS, &mut told);
-    for (call, answer) in CALLS.iter().zip(told.iter()).take(worked) {
-        let call = CallText(*call);
-        let answer = AnswerText(*answer);
+    let mut turn = Turn::new(
+        Line::new(instrument),
+        Book::new(&mut rows),
+        Book::new(&mut slips),
+    );
+    let mut told = [Ok(()); CALLS.len()];
+    let worked = turn.play(&CALLS, &mut told);
+    for (&call, &answer) in CALLS.iter().zip(told.iter()).take(worked) {
+        let call = CallText(call);
+        let answer = AnswerText(answer);
         println!(rt; "  {call}: {answer}")?;
     }
-    for section in 0..line.count() {
-        print_section(rt, &line, &register, section)?;
+    for section in 0..turn.line().count() {
+        print_section(rt, &turn, section)?;
     }
     Ok(())
 }

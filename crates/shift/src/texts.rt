@@ -9,18 +9,6 @@ use turn::refusals::TurnRefusal;
 #[derive(Clone, Copy)]
 pub struct CallText(pub Call);
 
-#[derive(Clone, Copy)]
-struct DirectionText(Direction);
-
-impl fmt::Display for DirectionText {
-    fn fmt<W: fmt::Write>(&self, f: &mut fmt::Formatter<W>) -> fmt::Result {
-        f.write_str(match self.0 {
-            Direction::Up => "u",
-            Direction::Down => "d",
-        })
-    }
-}
-
 // The letter of a call that names a section and a direction, with these.
 fn sectioned<W: fmt::Write>(
     f: &mut fmt::Formatter<W>,
@@ -28,7 +16,10 @@ fn sectioned<W: fmt::Write>(
     section: u32,
     direction: Direction,
 ) -> fmt::Result {
-    let direction = DirectionText(direction);
+    let direction = match direction {
+        Direction::Up => 'u',
+        Direction::Down => 'd',
+    };
     write!(f, "{letter} {section} {direction}")
 }
 
@@ -53,7 +44,8 @@ impl fmt::Display for CallText {
     }
 }
 
-// "ok", or "no" with the number; an instrument's refusal has its section and the phase found too.
+// "ok", or "no" with the number; an instrument's refusal has its section and the phase found too. It is not the text of the
+// program passage, which has no turn and tells the direction as well.
 #[derive(Clone, Copy)]
 pub struct AnswerText(pub Result<(), TurnRefusal>);
 
@@ -61,16 +53,14 @@ impl fmt::Display for AnswerText {
     fn fmt<W: fmt::Write>(&self, f: &mut fmt::Formatter<W>) -> fmt::Result {
         match self.0 {
             Ok(()) => f.write_str("ok"),
-            Err(TurnRefusal::Line(LineRefusal::Instrument(refusal))) => {
-                let number = refusal.number();
-                let section = refusal.section();
-                let phase = refusal.phase_code();
-                write!(f, "no {number} {section} {phase}")
-            }
-            Err(refusal) => {
-                let number = refusal.number();
-                write!(f, "no {number}")
-            }
+            Err(TurnRefusal::Line(LineRefusal::Instrument(refusal))) => write!(
+                f,
+                "no {} {} {}",
+                refusal.number(),
+                refusal.section(),
+                refusal.phase_code()
+            ),
+            Err(refusal) => write!(f, "no {}", refusal.number()),
         }
     }
 }

@@ -1,5 +1,6 @@
 -- The table of trains: where a train is, who is inside a section, and how one record is changed.
-use Rattle.std.specs.Prelude.{ℕ, suc, ◌+◌, Bool, true, false, cond, ◌&&◌, ◌||◌, List, [], ◌∷◌, Some, None, Option, ◌==◌}
+use Rattle.std.specs.Prelude.{ℕ, ◌+◌, Bool, true, false, cond, ◌&&◌, List, [], ◌∷◌, Some, None, Option, ◌==◌}
+use Rattle.std.specs.List.{list_any}
 use Rattle.block.specs.Order.{same_direction}
 use Rattle.block.specs.declared.order.Direction.{Direction}
 use Rattle.block.specs.declared.order.Direction.TheVariants.{Up, Down}
@@ -38,14 +39,9 @@ abbrev pub place_of : ℕ → List TrainRecord → Option Place
 place_of n [] = None
 place_of n (r ∷ rs) = cond (bears n r) (place_in r.train) (place_of n rs)
 
+-- whether some record passes
 abbrev pub any : (TrainRecord → Bool) → List TrainRecord → Bool
-any test [] = false
-any test (r ∷ rs) = test r || any test rs
-
--- the place of the first record that passes, where the list's first one has place i
-abbrev pub first_from : ℕ → (TrainRecord → Bool) → List TrainRecord → Option ℕ
-first_from i test [] = None
-first_from i test (r ∷ rs) = cond (test r) (Some i) (first_from (suc i) test rs)
+any test rs = list_any test rs
 
 -- the first record that passes is replaced
 abbrev pub put_first : (TrainRecord → Bool) → TrainRecord → List TrainRecord → List TrainRecord

@@ -1,13 +1,13 @@
 // Tries every action in every phase, at the ends of instruments of every make, and prints the numbers of the answers.
 #![tactic(auto)]
 
-use block::instruments::BlockInstrument;
-use block::order::{Action, Direction};
+use block::instruments::{BlockInstrument, try_action};
+use block::order::{Action, Direction, Phase};
+use block::refusals::InstrumentRefusal;
 use makes::interlocked::Interlocked;
 use makes::piles::MixedPile;
-use makes::sections::SectionRecord;
 use makes::telephone::Telephone;
-use std::io;
+use std::{fmt, io};
 
 const DIRECTIONS: [Direction; 2] = [Direction::Up, Direction::Down];
 
@@ -22,24 +22,30 @@ const ACTIONS: [Action; 5] = [
 
 // The first so many actions of a passage, from rest.
 fn bring<I: BlockInstrument>(instrument: &mut I, section: u32, direction: Direction, steps: usize) {
-    for action in ACTIONS.iter().take(steps) {
-        let _ = instrument.operate(*action, section, direction);
+    for &action in ACTIONS.iter().take(steps) {
+        let _ = instrument.operate(action, section, direction);
     }
 }
 
 // Back to rest, from any phase: what does not fit is refused.
 fn settle<I: BlockInstrument>(instrument: &mut I, section: u32) {
     for direction in DIRECTIONS {
-        for action in ACTIONS.iter().skip(1) {
-            let _ = instrument.operate(*action, section, direction);
+        for &action in ACTIONS.iter().skip(1) {
+            let _ = instrument.operate(action, section, direction);
         }
     }
 }
 
-fn phase_code<I: BlockInstrument>(instrument: &I, section: u32) -> u16 {
-    match instrument.phase(section) {
-        Ok(phase) => u16::from(phase.code()),
-        Err(refusal) => refusal.number(),
+// A phase by its code, or the number of the refusal in its place.
+#[derive(Clone, Copy)]
+struct OutcomeText(Result<Phase, InstrumentRefusal>);
+
+impl fmt::Display for OutcomeText {
+    fn fmt<W: fmt::Write>(&self, f: &mut fmt::Formatter<W>) -> fmt::Result {
+        match self.0 {
+            Ok(phase) => write!(f, "{}", phase.code()),
+            Err(refusal) => write!(f, "{}", refusal.number()),
+        }
     }
 }
 
@@ -52,16 +58,14 @@ fn try_all<I: BlockInstrument>(
     steps: usize,
 ) -> io::Result<()> {
     bring(instrument, section, direction, steps);
-    let found = phase_code(instrument, section);
+    let found = OutcomeText(instrument.phase(section));
     print!(rt; "  section {section} phase {found}:")?;
     settle(instrument, section);
     for action in ACTIONS {
         for towards in DIRECTIONS {
             bring(instrument, section, direction, steps);
-            let told = match instrument.operate(action, section, towards) {
-                Ok(()) => phase_code(instrument, section),
-                Err(refusal) => refusal.number(),
-            };
+            let tried = try_action(instrument, action, section, towards);
+            let told = OutcomeText(tried.answer.and(tried.phase));
             print!(rt; " {told}")?;
             settle(instrument, section);
         }
@@ -77,10 +81,10 @@ fn trial<I: BlockInstrument>(
 ) -> io::Result<()> {
     let count = instrument.count();
     println!(rt; "{make}, sections: {count}")?;
-    for section in sections {
+    for &section in sections {
         for direction in DIRECTIONS {
-            for steps in 0..5usize {
-                try_all(rt, instrument, *section, direction, steps)?;
+            for steps in 0..ACTIONS.len() {
+                try_all(rt, instrument, section, direction, steps)?;
             }
         }
     }

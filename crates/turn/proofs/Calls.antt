@@ -1,7 +1,9 @@
 -- One call of a turn, from its parts: the books' room, the line, the rows.
-use Rattle.std.proofs.Common.{◌≡◌, ℕ, Bool, true, false, cond, is_some, Some, None, Ok, Err, Option, sym, refl, ap}
+use Rattle.std.proofs.Common.{◌≡◌, ℕ, Bool, true, false, cond, is_some, Some, None, Ok, Err, Option, [], ◌∷◌, length, sym, refl, ap, ◌∙◌}
 use Rattle.std.specs.Option.{option_map}
 use Rattle.rules.specs.Checks.{refusal}
+use Rattle.rules.specs.Effects.{effect}
+use Rattle.rules.specs.State.{LineState}
 use Rattle.line.specs.Lines.{answered}
 use Rattle.rules.specs.Slips.{slip_of}
 use Rattle.rules.specs.declared.calls.Call.{Call}
@@ -9,9 +11,9 @@ use Rattle.rules.specs.declared.calls.Call.TheVariants.{PlaceTrain, WithdrawTrai
 use Rattle.rules.specs.declared.refusals.LineRefusal.{LineRefusal}
 use Rattle.rules.specs.declared.slips.SealRow.{SealRow}
 use Rattle.rules.specs.declared.slips.Slip.{Slip}
-use Rattle.turn.specs.Rows.{unsealing, seals_of}
-use Rattle.turn.specs.Turn.{Book, full, TurnState, no_seal_row, turn_refusal, answer_of}
-use Rattle.turn.specs.Turns.{admission, slip_rows}
+use Rattle.turn.specs.Rows.{row_of, unsealing, seals_of}
+use Rattle.turn.specs.Turn.{Book, full, added, TurnState, no_seal_row, turn_refusal, worked, answer_of}
+use Rattle.turn.specs.Turns.{admission, noted, slip_rows}
 use Rattle.turn.specs.declared.refusals.TurnRefusal.{TurnRefusal}
 use Rattle.turn.specs.declared.refusals.TurnRefusal.TheVariants.{RegisterFull, SealBookFull, Line}
 use Rattle.turn.specs.declared.rows.RegisterRow.{RegisterRow}
@@ -94,3 +96,12 @@ slip_row (LeaveSection n k) m = refl
 slip_row (ClearSection k d) m = refl
 slip_row (UnsealSection k d) m = refl
 slip_row (RestoreSection k d) m = refl
+
+-- the turn once the row and the slip of an accepted call have been entered
+pub noted_worked : (t v : TurnState) (c : Call) (l : LineState) (row : RegisterRow) (slip : Option Slip) → v ≡ t → l ≡ effect t.line c → row ≡ row_of t.line c → slip ≡ slip_of c → noted row slip (record { line = l; register = v.register; seals = v.seals }) ≡ worked t c
+noted_worked t v c l row slip same moved told handed =
+    ap (λ (x : TurnState). noted row slip (record { line = l; register = x.register; seals = x.seals })) same
+    ∙ ap (λ m. noted row slip (record { line = m; register = t.register; seals = t.seals })) moved
+    ∙ ap (λ r. noted r slip (record { line = effect t.line c; register = t.register; seals = t.seals })) told
+    ∙ ap (λ o. noted (row_of t.line c) o (record { line = effect t.line c; register = t.register; seals = t.seals })) handed
+    ∙ ap (λ rows. record { line = effect t.line c; register = added (row_of t.line c ∷ []) t.register; seals = added rows t.seals }) (slip_row c (length t.register.rows))

@@ -1,16 +1,13 @@
--- A turn, read off a line and two books.
+-- A book, as a turn sees it; and when a turn begins new.
 use Rattle.std.specs.Prelude.{◌≡◌, ℕ, ◌≤◌, cond, List, [], ◌∷◌, length, Some, None, Option}
-use Rattle.block.specs.declared.order.Phase.{Phase}
 use Rattle.book.specs.Entered.{entered}
 use Rattle.book.specs.declared.Book as lent
-use Rattle.line.specs.Lines.{state}
 use Rattle.rules.specs.Slips.{seal_row_of}
 use Rattle.rules.specs.declared.calls.Call.{Call}
-use Rattle.line.specs.declared.lines.Line.{Line}
 use Rattle.rules.specs.declared.slips.SealRow.{SealRow}
 use Rattle.rules.specs.declared.slips.Slip.{Slip}
 use Rattle.turn.specs.Rows.{unsealing}
-use Rattle.turn.specs.Turn.{Book, full, TurnState, new_turn, no_seal_row}
+use Rattle.turn.specs.Turn.{Book, full, added, TurnState, new_turn, no_seal_row}
 use Rattle.turn.specs.declared.refusals.TurnRefusal.{TurnRefusal}
 use Rattle.turn.specs.declared.refusals.TurnRefusal.TheVariants.{RegisterFull, SealBookFull}
 use Rattle.turn.specs.declared.rows.RegisterRow.{RegisterRow}
@@ -18,9 +15,6 @@ use Rattle.turn.specs.declared.rows.RegisterRow.{RegisterRow}
 -- a book's rows and room
 abbrev pub book_of : {Row : Type 0} → lent.Book Row → Book Row
 book_of b = record { rows = entered b.len b.rows.now; room = length b.rows.now }
-
-abbrev pub turn_of : {I : Type 0} → (I → List Phase) → Line I → lent.Book RegisterRow → lent.Book SealRow → TurnState
-turn_of phases line register seals = record { line = state phases line; register = book_of register; seals = book_of seals }
 
 -- whether the books have room for a call
 abbrev pub admission : Book RegisterRow → Book SealRow → Call → Option TurnRefusal
@@ -30,6 +24,14 @@ admission register seals c = cond (full register) (Some RegisterFull) (cond (no_
 abbrev pub slip_rows : Option Slip → ℕ → List SealRow
 slip_rows None place = []
 slip_rows (Some s) place = seal_row_of s place ∷ []
+
+-- a turn once the row of an accepted call has been entered, and its slip
+abbrev pub noted : RegisterRow → Option Slip → TurnState → TurnState
+noted row slip t = record {
+  line = t.line;
+  register = added (row ∷ []) t.register;
+  seals = added (slip_rows slip (length t.register.rows)) t.seals;
+}
 
 -- a turn that begins new
 pub record New (t : TurnState) : Type 0 where

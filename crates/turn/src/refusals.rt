@@ -14,6 +14,7 @@ pub enum TurnRefusal {
 }
 
 impl TurnRefusal {
+    // The number that an answer tells.
     pub fn number(self) -> u16
         ensures { result ≡ turn_number self }
     {
@@ -25,6 +26,7 @@ impl TurnRefusal {
     }
 }
 
+// Written out and not derived: a derive would not promise which case it makes.
 impl From<LineRefusal> for TurnRefusal {
     ghost from_gives = { λ e r. r ≡ Line e };
 

@@ -1,30 +1,29 @@
 // The rows of the turn register.
 ghost use Rattle.std.specs.Prelude.{◌≡◌};
-ghost use Rattle.line.specs.Lines.{state};
-ghost use Rattle.turn.specs.Rows.{kind_code, kind_of, row_of, tells, names};
+ghost use Rattle.turn.specs.Rows.{kind_code, kind_of, row_of, tells};
 
 use block::instruments::BlockInstrument;
 use block::order::Direction;
 use line::lines::Line;
 use rules::calls::Call;
 
-// What a row of the turn register tells of, one kind for each call.
-#[derive(Clone, Copy)]
+// What a row of the turn register tells of, one kind for each call, by the number of the call.
+#[derive(Clone, Copy, PartialEq, Eq)]
 pub enum Kind {
-    Placing,
-    Withdrawal,
-    Giving,
-    Opening,
-    Closing,
-    Entry,
-    Returning,
-    HomeOpening,
-    HomeShutting,
-    PedalReached,
-    Leaving,
-    Clearing,
-    Unsealing,
-    Restoring,
+    Placing = 1,
+    Withdrawal = 2,
+    Giving = 3,
+    Opening = 4,
+    Closing = 5,
+    Entry = 6,
+    Returning = 7,
+    HomeOpening = 8,
+    HomeShutting = 9,
+    PedalReached = 10,
+    Leaving = 11,
+    Clearing = 12,
+    Unsealing = 13,
+    Restoring = 14,
 }
 
 #[derive(Clone, Copy)]
@@ -36,32 +35,28 @@ pub struct RegisterRow {
     pub post: Option<u32>,
 }
 
+// What fills the slice that is lent to a register, before any row is entered.
+pub const BLANK_ROW: RegisterRow = RegisterRow {
+    kind: Kind::Placing,
+    train: None,
+    section: None,
+    direction: None,
+    post: None,
+};
+
 impl Kind {
     // The number of the call, 1 to 14.
     pub fn code(self) -> u8
         ensures { result ≡ kind_code self }
     {
-        match self {
-            Kind::Placing => 1,
-            Kind::Withdrawal => 2,
-            Kind::Giving => 3,
-            Kind::Opening => 4,
-            Kind::Closing => 5,
-            Kind::Entry => 6,
-            Kind::Returning => 7,
-            Kind::HomeOpening => 8,
-            Kind::HomeShutting => 9,
-            Kind::PedalReached => 10,
-            Kind::Leaving => 11,
-            Kind::Clearing => 12,
-            Kind::Unsealing => 13,
-            Kind::Restoring => 14,
-        }
+        self as u8
     }
+}
 
-    pub fn of(call: Call) -> Kind
-        ensures { result ≡ kind_of call }
-    {
+impl From<Call> for Kind {
+    ghost from_gives = { λ call kind. kind ≡ kind_of call };
+
+    fn from(call: Call) -> Kind {
         match call {
             Call::PlaceTrain { .. } => Kind::Placing,
             Call::WithdrawTrain { .. } => Kind::Withdrawal,
@@ -84,10 +79,10 @@ impl Kind {
 impl RegisterRow {
     // The row of an accepted call, on the line as it stands before the call.
     pub fn of<I: BlockInstrument>(line: &Line<I>, call: Call) -> RegisterRow
-        ensures { result ≡ row_of (state I.phases line.now) call }
+        ensures { result ≡ row_of line.now call }
     {
         RegisterRow {
-            kind: Kind::of(call),
+            kind: Kind::from(call),
             train: call.train(),
             section: call.section(),
             direction: line.direction_of(call),
@@ -99,15 +94,6 @@ impl RegisterRow {
     pub fn tells(&self, kind: Kind, section: u32) -> bool
         ensures { result ≡ tells kind section self.now }
     {
-        self.kind.code() == kind.code() && self.names(section)
-    }
-
-    fn names(&self, section: u32) -> bool
-        ensures { result ≡ names section self.now.section }
-    {
-        match self.section {
-            Some(own) => own == section,
-            None => false,
-        }
+        self.kind == kind && self.section == Some(section)
     }
 }

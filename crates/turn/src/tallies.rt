@@ -1,5 +1,5 @@
 // The tally of a section.
-ghost use Rattle.std.specs.Prelude.{◌≡◌, ◌+◌, if◌then◌else◌};
+ghost use Rattle.std.specs.Prelude.{◌≡◌, ◌+◌};
 ghost use Rattle.turn.specs.Law.{Account, Awaits};
 ghost use Rattle.turn.specs.Rows.{tally};
 ghost use Rattle.turn.specs.Turns.{book_of};
@@ -7,12 +7,6 @@ ghost use Rattle.turn.specs.declared.rows.Kind.TheVariants.{Giving, Leaving, Uns
 
 use crate::rows::{Kind, RegisterRow};
 use book::Book;
-
-fn one_if(counts: bool) -> usize
-    ensures { result ≡ (if counts then 1 else 0) }
-{
-    if counts { 1 } else { 0 }
-}
 
 // Givings, leavings and unsealings of the section. Where the register is that of a lawful turn, they tell whether a release
 // awaits.
@@ -26,11 +20,10 @@ pub fn tally(register: &Book<'_, RegisterRow>, section: u32) -> (usize, usize, u
     let mut givings: usize = 0;
     let mut leavings: usize = 0;
     let mut unsealings: usize = 0;
-    let rows = register.filled();
-    for row in rows {
-        givings += one_if(row.tells(Kind::Giving, section));
-        leavings += one_if(row.tells(Kind::Leaving, section));
-        unsealings += one_if(row.tells(Kind::Unsealing, section));
+    for row in register.filled() {
+        givings += usize::from(row.tells(Kind::Giving, section));
+        leavings += usize::from(row.tells(Kind::Leaving, section));
+        unsealings += usize::from(row.tells(Kind::Unsealing, section));
     }
     (givings, leavings, unsealings)
 }

@@ -1,10 +1,7 @@
-// One call of a turn: the books' room, the line, and then the rows.
-ghost use Rattle.std.specs.Prelude.{◌≡◌, true, false, [], ◌∷◌, ◌++◌, length, is_some};
-ghost use Rattle.book.specs.Entered.{entered};
-ghost use Rattle.rules.specs.Slips.{slip_of};
-ghost use Rattle.turn.specs.Rows.{unsealing};
+// A turn: one line and two books.
+ghost use Rattle.std.specs.Prelude.{◌≡◌, true, false, is_some};
 ghost use Rattle.turn.specs.Turn.{full, answer_of, turn_answer, step};
-ghost use Rattle.turn.specs.Turns.{book_of, turn_of, admission, slip_rows};
+ghost use Rattle.turn.specs.Turns.{book_of, admission, noted};
 
 use crate::refusals::TurnRefusal;
 use crate::rows::RegisterRow;
@@ -13,65 +10,92 @@ use book::Book;
 use line::lines::Line;
 use rules::calls::Call;
 use rules::slips::{SealRow, Slip};
+use std::marker::Model;
 
-// Whether the books have room: the register for every call, the seal book for an unsealing.
-fn admit(
-    register: &Book<'_, RegisterRow>,
-    seals: &Book<'_, SealRow>,
-    call: Call,
-) -> Result<(), TurnRefusal>
-    ensures { result ≡ answer_of (admission (book_of register.now) (book_of seals.now) call) }
-{
-    if register.is_full() {
-        return Err(TurnRefusal::RegisterFull);
-    }
-    match call {
-        Call::UnsealSection { .. } => {
-            if seals.is_full() {
-                return Err(TurnRefusal::SealBookFull);
-            }
-            Ok(())
+// The register has a row for each accepted call, the seal book one for each unsealing.
+#[derive(Drop)]
+pub struct Turn<'a, I: BlockInstrument> {
+    line: Line<I>,
+    register: Book<'a, RegisterRow>,
+    seals: Book<'a, SealRow>,
+}
+
+impl<'a, I: BlockInstrument> Model for Turn<'a, I> {
+    ghost use Rattle.turn.specs.Turn.{TurnState};
+    ghost use Rattle.turn.specs.Turns.{book_of};
+
+    ghost Value = { TurnState };
+
+    ghost view = { λ t. record { line = t.line; register = book_of t.register; seals = book_of t.seals } };
+}
+
+impl<'a, I: BlockInstrument> Turn<'a, I> {
+    // A turn over a line and two books, as they stand.
+    pub fn new(
+        line: Line<I>,
+        register: Book<'a, RegisterRow>,
+        seals: Book<'a, SealRow>,
+    ) -> Turn<'a, I>
+        ensures { result ≡ record { line = line; register = book_of register.entry; seals = book_of seals.entry } }
+    {
+        Turn {
+            line,
+            register,
+            seals,
         }
-        _ => Ok(()),
     }
-}
 
-// Enters the row of an accepted call, and its slip.
-fn note(
-    register: &mut Book<'_, RegisterRow>,
-    seals: &mut Book<'_, SealRow>,
-    row: RegisterRow,
-    slip: Option<Slip>,
-)
-    requires room { full (book_of register.old) ≡ false }
-    requires seal_room { is_some slip ≡ true → full (book_of seals.old) ≡ false }
-    ensures rows { book_of register.new ≡ record { rows = (book_of register.old).rows ++ row ∷ []; room = (book_of register.old).room } }
-    ensures seals { book_of seals.new ≡ record { rows = (book_of seals.old).rows ++ slip_rows slip (length (book_of register.old).rows); room = (book_of seals.old).room } }
-{
-    let place = register.len();
-    let _ = register.add(row);
-    match slip {
-        None => {}
-        Some(slip) => match slip.enter(place, seals) {
-            Ok(()) => {}
-            Err(_owed) => unreachable(),
-        },
+    pub fn line(&self) -> &Line<I>
+        ensures { result.now ≡ self.now.line }
+    {
+        &self.line
     }
-}
 
-// Works one call of a turn. A refused call changes nothing; an unsealing enters its slip before the call ends.
-pub fn work<I: BlockInstrument>(
-    line: &mut Line<I>,
-    register: &mut Book<'_, RegisterRow>,
-    seals: &mut Book<'_, SealRow>,
-    call: Call,
-) -> Result<(), TurnRefusal>
-    ensures answered { result ≡ turn_answer (turn_of I.phases line.old register.old seals.old) call }
-    ensures followed { turn_of I.phases line.new register.new seals.new ≡ step (turn_of I.phases line.old register.old seals.old) call }
-{
-    admit(register, seals, call)?;
-    let row = RegisterRow::of(line, call);
-    let slip = line.call(call)?;
-    note(register, seals, row, slip);
-    Ok(())
+    pub fn register(&self) -> &Book<'a, RegisterRow>
+        ensures { book_of result.now ≡ self.now.register }
+    {
+        &self.register
+    }
+
+    // Whether the books have room: the register for every call, the seal book for an unsealing.
+    fn admit(&self, call: Call) -> Result<(), TurnRefusal>
+        ensures { result ≡ answer_of (admission self.now.register self.now.seals call) }
+    {
+        if self.register.is_full() {
+            return Err(TurnRefusal::RegisterFull);
+        }
+        match call {
+            Call::UnsealSection { .. } if self.seals.is_full() => Err(TurnRefusal::SealBookFull),
+            _ => Ok(()),
+        }
+    }
+
+    // Enters the row of an accepted call, and its slip.
+    fn note(&mut self, row: RegisterRow, slip: Option<Slip>)
+        requires room { full self.old.register ≡ false }
+        requires seal_room { is_some slip ≡ true → full self.old.seals ≡ false }
+        ensures { self.new ≡ noted row slip self.old }
+    {
+        let place = self.register.len();
+        let _ = self.register.add(row);
+        match slip {
+            None => {}
+            Some(slip) => match slip.enter(place, &mut self.seals) {
+                Ok(()) => {}
+                Err(_owed) => unreachable!(),
+            },
+        }
+    }
+
+    // Works one call of a turn. A refused call changes nothing; an unsealing enters its slip before the call ends.
+    pub fn work(&mut self, call: Call) -> Result<(), TurnRefusal>
+        ensures answered { result ≡ turn_answer self.old call }
+        ensures followed { self.new ≡ step self.old call }
+    {
+        self.admit(call)?;
+        let row = RegisterRow::of(&self.line, call);
+        let slip = self.line.call(call)?;
+        self.note(row, slip);
+        Ok(())
+    }
 }

@@ -1,7 +1,6 @@
 // What the line knows of a call besides what it names.
 ghost use Rattle.std.specs.Prelude.{◌≡◌};
 ghost use Rattle.rules.specs.Calls.{direction_of, post_of};
-ghost use Rattle.line.specs.Lines.{state};
 ghost use Rattle.trains.specs.Trains.{place_of, stands_at};
 
 use crate::lines::Line;
@@ -12,32 +11,20 @@ use rules::calls::Call;
 impl<I: BlockInstrument> Line<I> {
     // The post at which a train stands.
     pub fn post_of(&self, train: u32) -> Option<u32>
-        ensures { result ≡ stands_at (place_of train (state I.phases self.now).trains) }
+        ensures { result ≡ stands_at (place_of train self.now.trains) }
     {
-        match self.trains.place_of(train) {
-            Some(place) => place.post(),
-            None => None,
-        }
+        self.trains.place_of(train)?.post()
     }
 
     // The direction of a call: its own, or that in which its train can do what the call says.
     pub fn direction_of(&self, call: Call) -> Option<Direction>
-        ensures { result ≡ direction_of (state I.phases self.now) call }
+        ensures { result ≡ direction_of self.now call }
     {
         match call {
             Call::PlaceTrain { .. } | Call::WithdrawTrain { .. } => None,
-            Call::EnterSection { train, section } => match self.trains.place_of(train) {
-                Some(place) => place.departs(section),
-                None => None,
-            },
-            Call::ReachPedal { train, section } => match self.trains.place_of(train) {
-                Some(place) => place.runs(section),
-                None => None,
-            },
-            Call::LeaveSection { train, section } => match self.trains.place_of(train) {
-                Some(place) => place.presses(section),
-                None => None,
-            },
+            Call::EnterSection { train, section } => self.trains.place_of(train)?.departs(section),
+            Call::ReachPedal { train, section } => self.trains.place_of(train)?.runs(section),
+            Call::LeaveSection { train, section } => self.trains.place_of(train)?.presses(section),
             Call::GiveRelease { direction, .. }
             | Call::OpenSignal { direction, .. }
             | Call::CloseSignal { direction, .. }
@@ -52,7 +39,7 @@ impl<I: BlockInstrument> Line<I> {
 
     // The post of a call: the one that it names, or the one at which its train stands.
     pub fn post_of_call(&self, call: Call) -> Option<u32>
-        ensures { result ≡ post_of (state I.phases self.now) call }
+        ensures { result ≡ post_of self.now call }
     {
         match call {
             Call::PlaceTrain { post, .. } => Some(post),

@@ -1,7 +1,6 @@
 // What may be asked of a line.
-ghost use Rattle.std.specs.Prelude.{◌≡◌};
+ghost use Rattle.std.specs.Prelude.{◌≡◌, ◌≤◌};
 ghost use Rattle.block.specs.Meaning.{phase_answer};
-ghost use Rattle.line.specs.Lines.{state};
 ghost use Rattle.rules.specs.State.{count, section_at};
 ghost use Rattle.trains.specs.Trains.{place_of, number_inside};
 
@@ -13,40 +12,37 @@ use rules::signals::{IDLE, SectionState};
 use trains::places::Place;
 
 impl<I: BlockInstrument> Line<I> {
-    // The number of sections.
+    // The number of sections, of which no instrument has more than sixteen.
     pub fn count(&self) -> u32
-        ensures { result ≡ count (state I.phases self.now) }
+        ensures value { result ≡ count self.now }
+        ensures few { result ≤ 16 }
     {
         self.instrument.count()
     }
 
     pub fn phase(&self, section: u32) -> Result<Phase, InstrumentRefusal>
-        ensures { result ≡ phase_answer (state I.phases self.now).phases section }
+        ensures { result ≡ phase_answer self.now.phases section }
     {
         self.instrument.phase(section)
     }
 
     // Signals and pedal mark; a section that there is not is idle.
     pub fn section(&self, section: u32) -> SectionState
-        ensures { result ≡ section_at (state I.phases self.now).sections section }
+        ensures { result ≡ section_at self.now.sections section }
     {
-        if section < 16 {
-            self.sections[section as usize]
-        } else {
-            IDLE
-        }
+        self.sections.get(section as usize).copied().unwrap_or(IDLE)
     }
 
     // The number of the train inside a section.
     pub fn train_inside(&self, section: u32) -> Option<u32>
-        ensures { result ≡ number_inside section (state I.phases self.now).trains }
+        ensures { result ≡ number_inside section self.now.trains }
     {
         self.trains.train_inside(section)
     }
 
     // Where a train is.
     pub fn place_of(&self, train: u32) -> Option<Place>
-        ensures { result ≡ place_of train (state I.phases self.now).trains }
+        ensures { result ≡ place_of train self.now.trains }
     {
         self.trains.place_of(train)
     }

@@ -1,11 +1,9 @@
 // How a call is worked: its checks, what it asks of the instrument, and what it does besides.
-ghost use Rattle.std.specs.Prelude.{◌≡◌, ◌<◌, List, slice_set};
-ghost use Rattle.block.specs.Meaning.{after};
-ghost use Rattle.rules.specs.Calls.{section_of};
-ghost use Rattle.rules.specs.Checks.{instrument_refuses};
+ghost use Rattle.std.specs.Prelude.{◌≡◌, ◌<◌};
+ghost use Rattle.rules.specs.Calls.{section_of, action_of};
 ghost use Rattle.rules.specs.Effects.{section_effect, trains_effect, sections_effect};
-ghost use Rattle.line.specs.Lines.{state, line_answer, line_after};
-ghost use Rattle.line.specs.Working.{told, with_phases, ask_answer, ask_after, Within};
+ghost use Rattle.line.specs.Lines.{line_answer, line_after};
+ghost use Rattle.line.specs.Working.{with_sections, with_trains, ask_answer, ask_after, Within};
 ghost use Rattle.trains.specs.Trains.{exit_post};
 
 use crate::lines::Line;
@@ -50,93 +48,52 @@ fn changed(state: SectionState, call: Call, way: Option<Direction>) -> SectionSt
     }
 }
 
+// The action that a call asks of the instrument.
+fn action_of(call: Call) -> Option<Action>
+    ensures { result ≡ action_of call }
+{
+    match call {
+        Call::GiveRelease { .. } => Some(Action::Give),
+        Call::OpenSignal { .. } => Some(Action::Open),
+        Call::ReturnRelease { .. } => Some(Action::Return),
+        Call::ClearSection { .. } | Call::UnsealSection { .. } => Some(Action::Clear),
+        Call::RestoreSection { .. } => Some(Action::Restore),
+        _ => None,
+    }
+}
+
 impl<I: BlockInstrument> Line<I> {
-    // The instrument's refusal is carried whole in the line's.
-    fn operate(
-        &mut self,
-        action: Action,
-        section: u32,
-        direction: Direction,
-    ) -> Result<(), LineRefusal>
-        ensures answered { result ≡ told (instrument_refuses (state I.phases self.old) action section direction) }
-        ensures followed { state I.phases self.new ≡ with_phases (after (state I.phases self.old).phases action section direction) (state I.phases self.old) }
+    // What the call asks of the instrument, whose refusal is carried whole in the line's.
+    fn ask(&mut self, call: Call, way: Option<Direction>) -> Result<(), LineRefusal>
+        ensures answered { result ≡ ask_answer call way self.old }
+        ensures followed { self.new ≡ ask_after call way self.old }
     {
-        self.instrument.operate(action, section, direction)?;
-        Ok(())
-    }
-
-    // What the call asks of the instrument.
-    fn ask(&mut self, call: Call) -> Result<(), LineRefusal>
-        ensures answered { result ≡ ask_answer (state I.phases self.old) call }
-        ensures followed { state I.phases self.new ≡ ask_after (state I.phases self.old) call }
-    {
-        match call {
-            Call::GiveRelease { section, direction } => self.operate(
-                Action::Give,
-                section,
-                direction,
-            ),
-            Call::OpenSignal { section, direction } => self.operate(
-                Action::Open,
-                section,
-                direction,
-            ),
-            Call::ReturnRelease { section, direction } => self.operate(
-                Action::Return,
-                section,
-                direction,
-            ),
-            Call::ClearSection { section, direction } => self.operate(
-                Action::Clear,
-                section,
-                direction,
-            ),
-            Call::UnsealSection { section, direction } => self.operate(
-                Action::Clear,
-                section,
-                direction,
-            ),
-            Call::RestoreSection { section, direction } => self.operate(
-                Action::Restore,
-                section,
-                direction,
-            ),
-            _ => Ok(()),
+        if let (Some(action), Some(section), Some(direction)) = (
+            action_of(call),
+            call.section(),
+            way,
+        ) {
+            self.instrument.operate(action, section, direction)?;
         }
-    }
-
-    fn set_section(&mut self, section: u32, state: SectionState)
-        requires { section < 16 }
-        ensures sections { self.new.sections ≡ slice_set self.old.sections section state }
-        ensures instrument { self.new.instrument ≡ self.old.instrument }
-        ensures condition { self.new.condition ≡ self.old.condition }
-        ensures trains { self.new.trains ≡ self.old.trains }
-    {
-        self.sections[section as usize] = state;
+        Ok(())
     }
 
     // What the call does to its section.
     fn apply_to_section(&mut self, call: Call, way: Option<Direction>)
         requires { Within (section_of call) }
-        ensures sections { self.new.sections ≡ sections_effect (section_of call) (section_effect call way) self.old.sections }
-        ensures instrument { self.new.instrument ≡ self.old.instrument }
-        ensures condition { self.new.condition ≡ self.old.condition }
-        ensures trains { self.new.trains ≡ self.old.trains }
+        ensures { self.new ≡ with_sections (sections_effect (section_of call) (section_effect call way) self.old.sections) self.old }
     {
         let Some(section) = call.section() else {
             return;
         };
         let state = changed(self.section(section), call, way);
-        self.set_section(section, state);
+        self.sections[section as usize] = state;
     }
 
     // What the call does to the trains.
     fn apply_to_trains(&mut self, call: Call, way: Option<Direction>)
         requires { Within (section_of call) }
-        ensures trains { self.new.trains.records ≡ trains_effect call way self.old.trains.records }
-        ensures sections { self.new.sections ≡ self.old.sections }
-        ensures instrument { self.new.instrument ≡ self.old.instrument }
-        ensures condition { self.new.condition ≡ self.old.condition }
+        ensures { self.new ≡ with_trains (trains_effect call way self.old.trains) self.old }
     {
         match (call, way) {
             (Call::PlaceTrain { train, post }, _) => self.trains.add(train, Place::AtPost { post }),
@@ -163,17 +120,13 @@ impl<I: BlockInstrument> Line<I> {
 
     // Works a call: its checks in their order, the instrument last of them, and then its effect.
     pub fn call(&mut self, call: Call) -> Result<Option<Slip>, LineRefusal>
-        ensures answered { result ≡ line_answer (state I.phases self.old) call }
-        ensures followed { state I.phases self.new ≡ line_after (state I.phases self.old) call }
+        ensures answered { result ≡ line_answer self.old call }
+        ensures followed { self.new ≡ line_after self.old call }
     {
-        if let Some(refusal) = self.condition.unfit() {
-            return Err(refusal);
-        }
-        if let Some(refusal) = self.examine(call) {
-            return Err(refusal);
-        }
+        self.condition.check()?;
+        self.examine(call)?;
         let way = self.direction_of(call);
-        self.ask(call)?;
+        self.ask(call, way)?;
         self.apply_to_section(call, way);
         self.apply_to_trains(call, way);
         Ok(Slip::of(call))

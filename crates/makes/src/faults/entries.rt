@@ -1,4 +1,5 @@
-// For each pane byte the number of the picture nearest to it, 7 where no picture is nearer than each other one.
+// For each pane byte the number of the picture nearest to it, 7 where no picture is nearer than each other one. The fault
+// reader is a constant table of 256 codes, so 7 is a code as well, and no Option.
 pub const NEAREST: [u8; 256] = [
     7, 7, 4, 4, 7, 7, 4, 4, 7, 7, 7, 7, 7, 7, 4, 4, 7, 0, 7, 7, 7, 0, 7, 7, 7, 7, 6, 6, 7, 0, 5, 5,
     1, 7, 7, 7, 1, 7, 7, 7, 7, 6, 6, 6, 1, 5, 5, 5, 1, 7, 7, 7, 1, 7, 7, 3, 7, 6, 6, 6, 1, 5, 5, 5,

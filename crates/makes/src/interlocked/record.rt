@@ -1,4 +1,4 @@
-// One section's panes and lever lock.
+// One section's panes and lever lock: a byte and a flag, as the box shows them.
 ghost use Rattle.std.specs.Prelude.{T};
 ghost use Rattle.makes.specs.Panes.{lawful};
 

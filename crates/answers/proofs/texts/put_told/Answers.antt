@@ -1,26 +1,12 @@
-use Rattle.std.proofs.Common.{ℕ, List, [], ◌∷◌, decimal, sym, ap, ◌∙◌}
+use Rattle.std.proofs.Common.{sym, ap, ◌∙◌}
 use Rattle.answers.specs.Texts.{told_text}
-use Rattle.writing.specs.Facts.{wrote_then}
-use Rattle.writing.specs.Pens.{pen_of, wrote}
+use Rattle.writing.specs.Facts.{writes_then, writes_as}
 use Rattle.answers.proofs.TextParts.{ok_text, err_text}
 use Rattle.answers.proofs.texts.put_told.Goals as goal
 
 pub returns-in-Ok : goal.returns-in-Ok
 returns-in-Ok c =
-    let p = pen_of c.args.answer.now in
-    let n = c.args.line in
-    let ok : List ℕ = 32 ∷ 111 ∷ 107 ∷ 10 ∷ [] in
-    let all = wrote_then p (decimal n) ok c.put_number.ensures.wrote c.put_text.ensures.wrote in
-    record {
-      wrote = all ∙ ap (λ t. wrote t p) (sym (ok_text n)) ∙ ap (λ r. wrote (told_text n r) p) (sym c.in-Ok.is);
-      lender = c.put_text.ensures.lender ∙ c.put_number.ensures.lender;
-    }
+    writes_as (sym (ok_text c.args.line) ∙ ap (told_text c.args.line) (sym c.in-Ok.is)) (writes_then _ _ c.put_number.ensures c.put_text.ensures)
 
 pub returns-in-Err : goal.returns-in-Err
-returns-in-Err c =
-    let p = pen_of c.args.answer.now in
-    let n = c.args.line in
-    record {
-      wrote = c.put_refusal.ensures.wrote ∙ ap (λ t. wrote t p) (sym (err_text n c.in-Err.refusal)) ∙ ap (λ r. wrote (told_text n r) p) (sym c.in-Err.is);
-      lender = c.put_refusal.ensures.lender;
-    }
+returns-in-Err c = writes_as (sym (err_text c.args.line c.in-Err.refusal) ∙ ap (told_text c.args.line) (sym c.in-Err.is)) c.put_refusal.ensures

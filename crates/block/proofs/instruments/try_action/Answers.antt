@@ -1,10 +1,5 @@
 use Rattle.block.proofs.Steps.{step}
 use Rattle.block.proofs.instruments.try_action.Goals as goal
 
-pub returns : goal.returns
-returns g c = record {
-  answered = c.operate-answer.ensures.answered;
-  followed = c.operate-answer.ensures.followed;
-  phase = c.phase-phase.ensures;
-  step = step _ _ _ _;
-}
+pub returns-clause-step : goal.returns-clause-step
+returns-clause-step g c = step _ _ _ _

@@ -1,30 +1,17 @@
-use Rattle.std.proofs.Common.{length, Some, None, Ok, Err}
-use Rattle.reading.specs.Grammar.{call_line}
-use Rattle.reading.proofs.WholeLines.{from_start, nothing_read, wholly_read, partly_read, lawful}
+use Rattle.std.proofs.Common.{◌≡◌, Ok, Err, arith}
+use Rattle.std.proofs.lemmas.Bool.Decides.{nat_tests}
+use Rattle.reading.specs.Grammar.{reading}
+use Rattle.reading.proofs.WholeLines.{reading_ends, as_read}
 use Rattle.reading.proofs.calls.read_call.Goals as goal
+
+pub returns-in-Some : goal.returns-in-Some
+returns-in-Some c =
+    let all = reading_ends c.args.line.now c.new-reader.ensures c.call.ensures in
+    let value : Ok c.in-Some.call ≡ reading c.args.line.now = grind (arith, nat_tests) in
+    record { value = value; lawful = as_read _ _ value }
 
 pub returns-in_default : goal.returns-in_default
 returns-in_default c =
-    let line = c.args.line.now in
-    let to = c.call.new.self.at in
-    let s = from_start call_line line c.new-reader.result.bytes.now c.new-reader.result.at to None c.new-reader.ensures.at c.new-reader.ensures.bytes c.in_default.ensures.value c.call.ensures.stands in
-    let all = lawful line (Err to) (nothing_read (call_line line) to (length line) s) in
-    record { value = all.value; lawful = all.lawful }
-
-pub returns-then-reader-line : goal.returns-then-reader-line
-returns-then-reader-line c =
-    let line = c.args.line.now in
-    let to = c.call.new.self.at in
-    let call = c.in-Some.call in
-    let s = from_start call_line line c.new-reader.result.bytes.now c.new-reader.result.at to (Some call) c.new-reader.ensures.at c.new-reader.ensures.bytes c.in-Some.ensures.value c.call.ensures.stands in
-    let all = lawful line (Ok call) (wholly_read (call_line line) call to (length line) s c.if-reader-line.true) in
-    record { value = all.value; lawful = all.lawful }
-
-pub returns-else-reader-line : goal.returns-else-reader-line
-returns-else-reader-line c =
-    let line = c.args.line.now in
-    let to = c.call.new.self.at in
-    let call = c.in-Some.call in
-    let s = from_start call_line line c.new-reader.result.bytes.now c.new-reader.result.at to (Some call) c.new-reader.ensures.at c.new-reader.ensures.bytes c.in-Some.ensures.value c.call.ensures.stands in
-    let all = lawful line (Err to) (partly_read (call_line line) call to (length line) s c.if-reader-line.false) in
-    record { value = all.value; lawful = all.lawful }
+    let all = reading_ends c.args.line.now c.new-reader.ensures c.call.ensures in
+    let value : Err c.at-in_default.result ≡ reading c.args.line.now = grind (arith, nat_tests) in
+    record { value = value; lawful = as_read _ _ value }

@@ -1,29 +1,15 @@
-use Rattle.std.proofs.Common.{◌≡◌, suc, ◌+◌, length, drop, sym, ap, ◌∙◌, arith}
-use Rattle.std.proofs.lemmas.List.{drop_all}
-use Rattle.reading.specs.Lines.{line_length}
-use Rattle.reading.proofs.Cutting.{ends_at, goes_on}
+use Rattle.std.proofs.Common.{sym, ◌∙◌, rules, tests}
+use Rattle.std.proofs.lemmas.Iterator.{YieldsList-from_slice}
+use Rattle.std.proofs.lemmas.Iterator.Search.{position_from_yields_List}
+use Rattle.reading.proofs.Cutting.{feeds, to_feed, no_feed}
 use Rattle.reading.proofs.lines.line_length.Goals as goal
 
-pub returns-then-bytes-i-eq10 : goal.returns-then-bytes-i-eq10
-returns-then-bytes-i-eq10 c =
-    let i = c.loop-i.i in
-    let h : line_length c.args.bytes.now ≡ i + line_length (drop i c.args.bytes.now) = c.loop-i.invariant in
-    sym (h ∙ ap (λ n. i + n) (ends_at i c.args.bytes.now c.loop-i-test.true c.if-bytes-i-eq10.true))
-
-pub loop-i-preserved : goal.loop-i-preserved
-loop-i-preserved c =
-    let i = c.loop-i.i in
+pub returns-in-Some : goal.returns-in-Some
+returns-in-Some c =
     let bytes = c.args.bytes.now in
-    let h : line_length bytes ≡ i + line_length (drop i bytes) = c.loop-i.invariant in
-    let on = goes_on i bytes c.loop-i-test.true c.if-bytes-i-eq10.false in
-    let next : suc i ≡ i + 1 = omega arith in
-    h ∙ ap (λ n. i + n) on ∙ (let z : i + suc (line_length (drop (suc i) bytes)) ≡ (i + 1) + line_length (drop (suc i) bytes) = omega arith in z) ∙ ap (λ j. (i + 1) + line_length (drop j bytes)) next
+    to_feed bytes _ (sym (position_from_yields_List feeds _ _ _ c.position.ensures.ran (YieldsList-from_slice bytes cc) (λ x b q k. search (rules, tests))) ∙ c.in-Some.is)
 
-pub returns : goal.returns
-returns c =
-    let i = c.loop-i.i in
+pub returns-in-None : goal.returns-in-None
+returns-in-None c =
     let bytes = c.args.bytes.now in
-    let h : line_length bytes ≡ i + line_length (drop i bytes) = c.loop-i.invariant in
-    let end = drop_all i bytes c.loop-i-test.false in
-    let at : i ≡ length bytes = let k = c.loop-i.auto.i-end in let l = c.loop-i-test.false in omega arith in
-    sym (h ∙ ap (λ l. i + line_length l) end ∙ (let z : i + 0 ≡ length bytes = omega (arith, at) in z))
+    no_feed bytes (sym (position_from_yields_List feeds _ _ _ c.position.ensures.ran (YieldsList-from_slice bytes cc) (λ x b q k. search (rules, tests))) ∙ c.in-None.is)

@@ -11,5 +11,5 @@ Counted kind k rows i n = (n ≤ i) × (n + tally kind k (drop i rows) ≡ tally
 
 abbrev pub invariant-loop-row : goal.invariant-loop-row
 invariant-loop-row l =
-    Counted Giving l.section l.rows l.row-index l.givings × Counted Leaving l.section l.rows l.row-index l.leavings
-    × Counted Unsealing l.section l.rows l.row-index l.unsealings
+    Counted Giving l.section l.row-items l.row-index l.givings × Counted Leaving l.section l.row-items l.row-index l.leavings
+    × Counted Unsealing l.section l.row-items l.row-index l.unsealings

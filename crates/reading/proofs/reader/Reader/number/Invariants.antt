@@ -1,17 +1,11 @@
-use Rattle.std.proofs.Common.{◌≡◌, ◌+◌, ◌-◌, length, drop}
-use Rattle.reading.specs.Grammar.{more_digits}
-use Rattle.reading.specs.Outcomes.{value_got, moved}
+use Rattle.std.proofs.Common.{ℕ, length, Option}
+use Rattle.reading.specs.Grammar.{number, more_digits}
+use Rattle.reading.specs.Places.{Place, Reads}
 use Rattle.reading.proofs.reader.Reader.number.Given as goal
 
--- what is still to be read gives the same value, and ends at the same place
-abbrev pub invariant-loop-end : goal.invariant-loop-end
-invariant-loop-end l =
-    let bytes = l.self.bytes.now in
-    let here = more_digits l.end l.n (drop l.self.at bytes) in
-    let start = more_digits l.end l.initial.n (drop l.initial.self.at bytes) in
-    (value_got start ≡ value_got here)
-    × (l.initial.self.at + moved start ≡ l.self.at + moved here)
-    × (l.self.bytes ≡ l.initial.self.bytes)
+-- whatever is read from here is what is read from the start
+abbrev pub invariant-loop-number : goal.invariant-loop-number
+invariant-loop-number l = (r : Option ℕ) (p : Place) → Reads (more_digits l.end l.number) l.self r p → Reads (number l.end) l.fn.self r p
 
-abbrev pub decreases-loop-end : goal.decreases-loop-end
-decreases-loop-end l = length l.self.bytes.now - l.self.at
+abbrev pub decreases-loop-number : goal.decreases-loop-number
+decreases-loop-number l = length l.self.ahead

@@ -1,11 +1,18 @@
-use Rattle.std.proofs.Common.{None, sym, ◌∙◌}
-use Rattle.trains.specs.Trains.{free, bears, place_in}
-use Rattle.trains.proofs.Searches.{looked_found, looked_none}
+use Rattle.std.proofs.Common.{rules, arith}
+use Rattle.std.proofs.lemmas.Grind.{common_steps}
+use Rattle.std.proofs.lemmas.Iterator.{YieldsList-from_slice}
+use Rattle.std.proofs.lemmas.Iterator.Search.{find_from_yields_List}
+use borrow.Author.Tests.{tests}
+use Rattle.trains.specs.Trains.{bears}
+use Rattle.trains.proofs.Searches.{place_found}
 use Rattle.trains.proofs.table.TrainTable.place_of.Goals as goal
 
-pub returns-in-Some : goal.returns-in-Some
-returns-in-Some c =
-    c.place.ensures ∙ sym (looked_found (bears c.args.number) None (λ r. place_in r.train) free c.in-Some.i c.args.self.now.records (sym c.first.ensures.value ∙ c.in-Some.is))
+pub returns-in_err-find : goal.returns-in_err-find
+returns-in_err-find c =
+    let found = find_from_yields_List (bears c.args.number) _ _ c.find.result c.find.ensures.ran (YieldsList-from_slice c.self.inside.records cc) (λ x b q k. search (rules, tests)) in
+    grind (arith, common_steps, place_found)
 
-pub returns-in-None : goal.returns-in-None
-returns-in-None c = sym (looked_none (bears c.args.number) None (λ r. place_in r.train) 0 c.args.self.now.records (sym c.first.ensures.value ∙ c.in-None.is))
+pub returns : goal.returns
+returns c =
+    let found = find_from_yields_List (bears c.args.number) _ _ c.find.result c.find.ensures.ran (YieldsList-from_slice c.self.inside.records cc) (λ x b q k. search (rules, tests)) in
+    grind (arith, common_steps, place_found)

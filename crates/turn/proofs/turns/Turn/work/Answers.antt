@@ -1,0 +1,62 @@
+use Rattle.std.proofs.Common.{is_some, Err, sym, ap, ◌∙◌}
+use Rattle.std.proofs.lemmas.Result.{err_from_is_err_and}
+use Rattle.std.specs.Option.{option_map}
+use Rattle.line.specs.Lines.{line_answer, line_after}
+use Rattle.line.proofs.Parts.{after_refused, after_accepted}
+use Rattle.turn.specs.Rows.{row_of}
+use Rattle.turn.specs.Turn.{TurnState, full, answer_of}
+use Rattle.turn.specs.declared.refusals.TurnRefusal.TheVariants.{Line}
+use Rattle.turn.proofs.Calls.{admitted_err, admitted_ok, line_err, line_ok, not_admitted, left_to_line, has_room, slip_room, noted_worked}
+use Rattle.turn.proofs.Runs.{stepped, stayed}
+use Rattle.turn.proofs.turns.Turn.work.Goals as goal
+
+pub returns-in_err-admit : goal.returns-in_err-admit
+returns-in_err-admit g c =
+    let t = c.args.self.now in
+    let p = err_from_is_err_and c.from_residual.result c.from_residual.ensures.1 in
+    let refused = not_admitted t c.args.call _ (admitted_err _ _ (sym c.admit.ensures ∙ c.in_err-admit.was)) in
+    record {
+      answered = p.1 ∙ ap Err p.2 ∙ sym (ap answer_of refused);
+      followed = sym (stayed t c.args.call _ refused);
+    }
+
+pub returns-in_err-slip : goal.returns-in_err-slip
+returns-in_err-slip g c =
+    let t = c.args.self.now in
+    let call = c.args.call in
+    let p = err_from_is_err_and c.from_residual-in_err-slip.result c.from_residual-in_err-slip.ensures.1 in
+    let room = admitted_ok _ (sym c.admit.ensures ∙ c.in_ok-admit.was) in
+    let answered = c.call.ensures.answered ∙ ap (λ (x : TurnState). line_answer x.line call) c.self.view_is in
+    let line = line_err _ _ _ (sym answered ∙ c.in_err-slip.was) in
+    let refused = left_to_line t call room ∙ ap (option_map Line) line in
+    let still = c.call.ensures.followed ∙ ap (λ (x : TurnState). line_after x.line call) c.self.view_is ∙ after_refused t.line call _ line in
+    record {
+      answered = p.1 ∙ ap Err p.2 ∙ sym (ap answer_of refused);
+      followed = (λ i. record { line = still i; register = (c.self.view_is i).register; seals = (c.self.view_is i).seals }) ∙ sym (stayed t call _ refused);
+    }
+
+pub note-requires : goal.note-requires
+note-requires g c =
+    let t = c.args.self.now in
+    let room = has_room t.register t.seals c.args.call (admitted_ok _ (sym c.admit.ensures ∙ c.in_ok-admit.was)) in
+    let answered = c.call.ensures.answered ∙ ap (λ (x : TurnState). line_answer x.line c.args.call) c.self.view_is in
+    let slip = (line_ok _ _ _ (sym answered ∙ c.in_ok-slip.was)).1 in
+    record {
+      room = ap (λ (x : TurnState). full x.register) c.self.view_is ∙ room.0;
+      seal_room = λ some. ap (λ (x : TurnState). full x.seals) c.self.view_is ∙ slip_room t.seals c.args.call room.1 (sym (ap is_some slip) ∙ some);
+    }
+
+pub returns : goal.returns
+returns g c =
+    let t = c.args.self.now in
+    let call = c.args.call in
+    let room = admitted_ok _ (sym c.admit.ensures ∙ c.in_ok-admit.was) in
+    let answered = c.call.ensures.answered ∙ ap (λ (x : TurnState). line_answer x.line call) c.self.view_is in
+    let line = line_ok _ _ _ (sym answered ∙ c.in_ok-slip.was) in
+    let accepted = left_to_line t call room ∙ ap (option_map Line) line.0 in
+    let moved = c.call.ensures.followed ∙ ap (λ (x : TurnState). line_after x.line call) c.self.view_is ∙ after_accepted t.line call line.0 in
+    let row = c.of-row.ensures ∙ ap (λ (x : TurnState). row_of x.line call) c.self.view_is in
+    record {
+      answered = sym (ap answer_of accepted);
+      followed = c.note.ensures ∙ noted_worked t _ call _ _ _ c.self.view_is moved row line.1 ∙ sym (stepped t call accepted);
+    }
