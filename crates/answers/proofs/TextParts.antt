@@ -45,10 +45,6 @@ pub one_section : (s : LineState) (rows : List RegisterRow) (k : ℕ) → sectio
 unfolding section_text
 one_section s rows k = refl
 
-pub phase_found : (ps : List Phase) (k : ℕ) → k < length ps → phase_answer ps k ≡ Ok (phase_at ps k)
-unfolding phase_answer
-phase_found ps k h = ap (λ b. cond b (Ok (phase_at ps k)) (Err (NoSection k None))) (lt-ltb k (length ps) h)
-
 -- one section more
 pub next_section : (s : LineState) (rows : List RegisterRow) (k : ℕ) → section_texts s rows k ++ section_text s rows k ≡ section_texts s rows (k + 1)
 next_section s rows k = let e : suc k ≡ k + 1 = omega arith in ap (section_texts s rows) e

@@ -5,8 +5,8 @@ ghost use Rattle.block.specs.Order.{direction_code, phase_code, same_phase, towa
 // Up is towards the higher post.
 #[derive(Clone, Copy, PartialEq, Eq)]
 pub enum Direction {
-    Up,
-    Down,
+    Up = 0,
+    Down = 1,
 }
 
 // How far the release of a section has come, and for which direction.
@@ -33,10 +33,7 @@ impl Direction {
     pub fn code(self) -> u8
         ensures { result ≡ direction_code self }
     {
-        match self {
-            Direction::Up => 0,
-            Direction::Down => 1,
-        }
+        self as u8
     }
 }
 

@@ -15,6 +15,7 @@ pub struct Book<'a, R> {
     ghost within: { len ≤ length rows.now },
 }
 
+// The clauses are over the length and the slice, as the definitions are, which say something before there is a book.
 impl<'a, R> Book<'a, R> {
     // An empty book over a lent slice, with room for as many rows. What the book does to its rows is seen in the slice: the two
     // have one name.

@@ -1,8 +1,6 @@
 // A worked example, and how it is compared.
-use answers::texts::put_refusal;
 use anyhow::ensure;
-use book::Book;
-use sheet::sheets::{MOST_ANSWER, play_sheet};
+use sheet::sheets::{MOST_ANSWER, print_sheet};
 use std::io;
 use std::io::Write;
 
@@ -33,10 +31,6 @@ pub fn compare(rt: &impl Print, case: &Case<'_>, answer: &[u8]) -> anyhow::Resul
 // Plays a sheet, and compares its whole answer, or the refusal of the whole sheet.
 pub fn check(rt: &impl Print, case: &Case<'_>) -> anyhow::Result<()> {
     let mut answer = [0u8; MOST_ANSWER];
-    let written = play_sheet(case.sheet, &mut answer).unwrap_or_else(|refusal| {
-        let mut text = Book::new(&mut answer);
-        put_refusal(&mut text, refusal);
-        text.len()
-    });
+    let written = print_sheet(case.sheet, &mut answer);
     compare(rt, case, &answer[..written])
 }

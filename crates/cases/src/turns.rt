@@ -3,7 +3,6 @@ use crate::cases::{Case, compare, tell};
 use block::instruments::BlockInstrument;
 use block::order::{Action, Direction};
 use book::Book;
-use line::lines::Line;
 use makes::interlocked::Interlocked;
 use makes::piles::MixedPile;
 use makes::telephone::Telephone;
@@ -39,8 +38,8 @@ const NOT_AT_REST: Case = Case {
     answer: b"2 no 202\n",
 };
 
-// An instrument of two sections, and one that no line can be made over. The program numbers has the two as well: no library
-// below is for what is only tried.
+// An instrument of two sections, and one that no line can be made over. The program numbers has both too: no library is
+// for what only programs try.
 fn two() -> MixedPile<Interlocked, Telephone> {
     MixedPile {
         first: Interlocked::new(1),
@@ -62,7 +61,7 @@ fn check_turn<I: BlockInstrument + Drop>(
     rows: &mut [RegisterRow],
     slips: &mut [SealRow],
 ) -> anyhow::Result<()> {
-    let mut turn = Turn::new(Line::new(instrument), Book::new(rows), Book::new(slips));
+    let mut turn = Turn::new(instrument, rows, slips);
     let mut answer = [0u8; 100];
     let mut answer = Book::new(&mut answer);
     play_lines(&mut turn, case.sheet, &mut answer);
@@ -72,7 +71,7 @@ fn check_turn<I: BlockInstrument + Drop>(
 // On a sheet, 100,000 has a digit too many.
 fn check_train(rt: &impl Print) -> anyhow::Result<()> {
     let mut rows = [BLANK_ROW; 1];
-    let mut turn = Turn::new(Line::new(two()), Book::new(&mut rows), Book::new(&mut []));
+    let mut turn = Turn::new(two(), &mut rows, &mut []);
     let call = Call::PlaceTrain {
         train: 100_000,
         post: 0,

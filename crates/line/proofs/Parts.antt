@@ -67,11 +67,11 @@ asked_in_vain s (Some a) (Some k) (Some d) e h = by (answer s.phases a k d) refl
     by (Err f) is h = (steps.step s.phases a k d).refused f is
 
 -- what was answered tells the check
-pub told_ok : (o : Option LineRefusal) → told o ≡ Ok tt → o ≡ None
+pub told_ok : {E : Type 0} (o : Option E) → told o ≡ Ok tt → o ≡ None
 told_ok None e = refl
 told_ok (Some r) e = clash (cc)
 
-pub told_err : (o : Option LineRefusal) (e : LineRefusal) → told o ≡ Err e → o ≡ Some e
+pub told_err : {E : Type 0} (o : Option E) (e : E) → told o ≡ Err e → o ≡ Some e
 told_err None e h = clash (cc)
 told_err (Some r) e h = let same : r ≡ e = cc in ap Some same
 

@@ -3,7 +3,7 @@ use Rattle.std.specs.Prelude.{ℕ, ◌<◌, List, Some, None, Ok, Err, Option, R
 use Rattle.block.specs.declared.order.Phase.{Phase}
 use Rattle.rules.specs.Calls.{section_of, action_of}
 use Rattle.block.specs.declared.order.Direction.{Direction}
-use Rattle.rules.specs.Checks.{told, first_refusal, asked}
+use Rattle.rules.specs.Checks.{told, first_refusal, own_checks, asked}
 use Rattle.rules.specs.Effects.{phases_effect}
 use Rattle.rules.specs.State.{LineState}
 use Rattle.rules.specs.declared.calls.Call.{Call}
@@ -11,6 +11,10 @@ use Rattle.rules.specs.declared.signals.SectionState.{SectionState}
 use Rattle.trains.specs.declared.places.TrainRecord.{TrainRecord}
 use Rattle.rules.specs.declared.refusals.LineRefusal.{LineRefusal}
 use Rattle.rules.specs.declared.refusals.LineRefusal.TheVariants.{TrainElsewhere}
+
+-- what the line's own checks answer
+abbrev pub own_answer : LineState → Call → Result (Unit {0}) LineRefusal
+own_answer s c = told (first_refusal (own_checks s c))
 
 -- the direction in which a train goes, where no check before refuses it
 abbrev pub way_told : Option LineRefusal → Option Direction → Result Direction LineRefusal

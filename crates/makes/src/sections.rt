@@ -43,7 +43,7 @@ pub trait SectionRecord: Copy {
 }
 
 // An instrument of at most sixteen sections, each kept as a record of its make. The records stand in an array with their
-// count beside it, since a list that grows would take its memory from the heap. No model: the law `few` would have to hold of every
+// count beside it: a list that grows would take its memory from the heap, and one of fixed room would be filled by a loop. No model: the law `few` would have to hold of every
 // list of records, so that the phases would be cut to sixteen once more.
 #[derive(Drop)]
 pub struct Sections<R> {
@@ -53,6 +53,7 @@ pub struct Sections<R> {
     ghost few: { count ≤ 16 },
 }
 
+// `row` is over a count and a list of records, so that it says something before there is an instrument.
 impl<R: SectionRecord> Sections<R> {
     // All sections at rest; a count above sixteen makes sixteen.
     pub fn new(count: u32) -> Self

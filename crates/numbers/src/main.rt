@@ -5,8 +5,6 @@ ghost use Rattle.std.specs.Prelude.{◌^◌, ◌<◌};
 
 use block::instruments::BlockInstrument;
 use block::order::{Action, Direction};
-use book::Book;
-use line::lines::Line;
 use makes::interlocked::Interlocked;
 use makes::piles::MixedPile;
 use makes::telephone::Telephone;
@@ -41,7 +39,7 @@ const UNSEAL: Call = Call::UnsealSection {
     direction: UP,
 };
 
-// Calls on a pile of two sections, with room in both books, and as what they are told.
+// Calls on a pile of two sections, with room in both books, each with the name by which it is printed.
 const EXAMPLES: &[(&str, &[Call])] = &[
     (
         "G 2 u",
@@ -101,8 +99,8 @@ const EXAMPLES: &[(&str, &[Call])] = &[
     ("G 0 u, O 0 u twice", &[GIVE, OPEN, OPEN]),
 ];
 
-// An instrument of two sections, and one that no line can be made over. The program cases has the two as well: no library below
-// is for what is only tried.
+// An instrument of two sections, and one that no line can be made over. The program cases has both too: no library is
+// for what only programs try.
 fn two() -> MixedPile<Interlocked, Telephone> {
     MixedPile {
         first: Interlocked::new(1),
@@ -123,7 +121,7 @@ fn last_answer<I: BlockInstrument + Drop>(
     slips: &mut [SealRow],
     calls: &[Call],
 ) -> Result<(), TurnRefusal> {
-    let mut turn = Turn::new(Line::new(instrument), Book::new(rows), Book::new(slips));
+    let mut turn = Turn::new(instrument, rows, slips);
     calls
         .iter()
         .map(|&call| turn.work(call))

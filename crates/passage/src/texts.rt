@@ -37,7 +37,7 @@ impl fmt::Display for DirectionText {
     }
 }
 
-// "ok", or "no" with the refusal's number, section, direction and phase found.
+// "ok", or "no" with the refusal's number, section, direction and phase found. What shift prints of a refusal is another text.
 #[derive(Clone, Copy)]
 pub struct AnswerText(pub Result<(), InstrumentRefusal>);
 

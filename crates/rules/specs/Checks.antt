@@ -26,7 +26,7 @@ first_refusal (None ∷ os) = first_refusal os
 first_refusal (Some r ∷ os) = Some r
 
 -- the answer that a refusal gives, or its lack
-abbrev pub told : Option LineRefusal → Result (Unit {0}) LineRefusal
+abbrev pub told : {E : Type 0} → Option E → Result (Unit {0}) E
 told None = Ok tt
 told (Some e) = Err e
 

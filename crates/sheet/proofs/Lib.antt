@@ -2,3 +2,4 @@ mod Playing
 mod Lengths
 mod Beginning
 mod Answering
+pub mod Printing

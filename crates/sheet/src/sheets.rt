@@ -1,9 +1,10 @@
 // A whole sheet.
-ghost use Rattle.std.specs.Prelude.{◌≡◌, length};
-ghost use Rattle.sheet.specs.Sheets.{sheet_answer, answer_length, answered_buffer, Fits, SheetLaw};
+ghost use Rattle.std.specs.Prelude.{◌≡◌, ◌≤◌, length, take};
+ghost use Rattle.sheet.specs.Sheets.{sheet_answer, printed, answer_length, answered_buffer, Fits, SheetLaw};
 
 use crate::turns::play_turn;
 use answers::refusals::SheetRefusal;
+use answers::texts::put_refusal;
 use book::Book;
 use reading::headings::read_heading;
 use reading::lines::{Lines, count_lines};
@@ -44,4 +45,20 @@ pub fn play_sheet(sheet: &[u8], answer: &mut [u8]) -> Result<usize, SheetRefusal
     let mut written = Book::new(answer);
     play_turn(heading, lines.rest(), &mut written);
     Ok(written.len())
+}
+
+// Plays a sheet and writes what a program prints of it: its answer, or the refusal of the whole sheet. How many bytes that are; what
+// the buffer has no room for is lost.
+pub fn print_sheet(sheet: &[u8], buffer: &mut [u8]) -> usize
+    ensures printed { take result buffer.new ≡ take (length buffer.old) (printed (sheet_answer (length buffer.old) sheet.now)) }
+    ensures within { result ≤ length buffer.old }
+{
+    match play_sheet(sheet, buffer) {
+        Ok(written) => written,
+        Err(refusal) => {
+            let mut text = Book::new(buffer);
+            put_refusal(&mut text, refusal);
+            text.len()
+        }
+    }
 }

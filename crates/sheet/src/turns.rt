@@ -13,7 +13,6 @@ use answers::sections::put_sections;
 use answers::texts::put_heading;
 use block::instruments::BlockInstrument;
 use book::Book;
-use line::lines::Line;
 use makes::interlocked::Interlocked;
 use makes::piles::MixedPile;
 use makes::telephone::Telephone;
@@ -40,9 +39,7 @@ where
 {
     let mut rows = [BLANK_ROW; 1_000];
     let mut slips = [BLANK_SEAL; 50];
-    let register = Book::new(&mut rows);
-    let seals = Book::new(&mut slips);
-    let mut turn = Turn::new(Line::new(instrument), register, seals);
+    let mut turn = Turn::new(instrument, &mut rows, &mut slips);
     put_heading(answer, heading);
     play_lines(&mut turn, sheet, answer);
     put_sections(answer, &turn);

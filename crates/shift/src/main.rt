@@ -6,8 +6,6 @@ use crate::texts::{AnswerText, CallText};
 use block::instruments::BlockInstrument;
 use block::order::{Direction, Phase};
 use block::refusals::InstrumentRefusal;
-use book::Book;
-use line::lines::Line;
 use makes::interlocked::Interlocked;
 use makes::piles::MixedPile;
 use makes::telephone::Telephone;
@@ -129,11 +127,7 @@ fn print_turn<I: BlockInstrument + Drop>(
     println!(rt; "{make}")?;
     let mut rows = [BLANK_ROW; 32];
     let mut slips = [BLANK_SEAL; 2];
-    let mut turn = Turn::new(
-        Line::new(instrument),
-        Book::new(&mut rows),
-        Book::new(&mut slips),
-    );
+    let mut turn = Turn::new(instrument, &mut rows, &mut slips);
     let mut told = [Ok(()); CALLS.len()];
     let worked = turn.play(&CALLS, &mut told);
     for (&call, &answer) in CALLS.iter().zip(told.iter()).take(worked) {

@@ -40,7 +40,10 @@ impl TrainTable {
     pub fn place_of(&self, number: u32) -> Option<Place>
         ensures { result ≡ place_of number self.now }
     {
-        self.records.iter().find(|held| held.bears(number))?.place()
+        self.records
+            .iter()
+            .find(|held| held.bears(number))
+            .and_then(TrainRecord::place)
     }
 
     // The number of a train inside the section.
@@ -49,8 +52,8 @@ impl TrainTable {
     {
         self.records
             .iter()
-            .find(|held| held.is_inside(section))?
-            .number()
+            .find(|held| held.is_inside(section))
+            .and_then(TrainRecord::number)
     }
 
     pub fn has_room(&self) -> bool
@@ -87,7 +90,8 @@ impl TrainTable {
         self.records.iter().position(TrainRecord::is_free)
     }
 
-    // This and the next two are three lines each: one function for them over a closure would be longer.
+    // This and the next two find a record and write it: one function for the three would leave each of them these two lines.
+
     // A free record takes the train; a full table stays as it is.
     #[tactic(auto, using(crate::proofs::Searches::puts))]
     pub fn add(&mut self, number: u32, place: Place)

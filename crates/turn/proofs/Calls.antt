@@ -12,21 +12,12 @@ use Rattle.rules.specs.declared.refusals.LineRefusal.{LineRefusal}
 use Rattle.rules.specs.declared.slips.SealRow.{SealRow}
 use Rattle.rules.specs.declared.slips.Slip.{Slip}
 use Rattle.turn.specs.Rows.{row_of, unsealing, seals_of}
-use Rattle.turn.specs.Turn.{Book, full, added, TurnState, no_seal_row, turn_refusal, worked, answer_of}
+use Rattle.turn.specs.Turn.{Book, full, added, TurnState, no_seal_row, turn_refusal, worked}
 use Rattle.turn.specs.Turns.{admission, noted, slip_rows}
 use Rattle.turn.specs.declared.refusals.TurnRefusal.{TurnRefusal}
 use Rattle.turn.specs.declared.refusals.TurnRefusal.TheVariants.{RegisterFull, SealBookFull, Line}
 use Rattle.turn.specs.declared.rows.RegisterRow.{RegisterRow}
 use Rattle.turn.proofs.Tests.{none_some, true_false}
-
--- what was answered tells the refusal
-pub admitted_err : (o : Option TurnRefusal) (e : TurnRefusal) → answer_of o ≡ Err e → o ≡ Some e
-admitted_err None e h = absurd (none_some {x = e} (cc))
-admitted_err (Some r) e h = let same : r ≡ e = cc in ap Some same
-
-pub admitted_ok : (o : Option TurnRefusal) → answer_of o ≡ Ok tt → o ≡ None
-admitted_ok None h = refl
-admitted_ok (Some r) h = absurd (none_some {x = r} (cc))
 
 pub line_err : (o : Option LineRefusal) (slip : Option Slip) (e : LineRefusal) → answered o slip ≡ Err e → o ≡ Some e
 line_err None slip e h = absurd (none_some {x = e} (cc))

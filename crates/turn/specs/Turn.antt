@@ -1,8 +1,8 @@
 -- A turn: one line and two books; one call of it; and a run of calls.
-use Rattle.std.specs.Prelude.{ℕ, Bool, false, cond, List, [], ◌∷◌, ◌++◌, length, Some, None, Ok, Err, Option, Result, nat_le}
+use Rattle.std.specs.Prelude.{ℕ, Bool, false, cond, List, [], ◌∷◌, ◌++◌, length, Some, None, Option, Result, nat_le}
 use Rattle.block.specs.declared.order.Direction.{Direction}
 use Rattle.std.specs.Option.{option_map}
-use Rattle.rules.specs.Checks.{refusal}
+use Rattle.rules.specs.Checks.{told, refusal}
 use Rattle.rules.specs.Effects.{effect}
 use Rattle.rules.specs.State.{LineState, new_line}
 use Rattle.rules.specs.declared.calls.Call.{Call}
@@ -63,8 +63,7 @@ unfoldable pub step : TurnState → Call → TurnState
 step t c = unless (turn_refusal t c) t (worked t c)
 
 abbrev pub answer_of : Option TurnRefusal → Result (Unit {0}) TurnRefusal
-answer_of None = Ok tt
-answer_of (Some e) = Err e
+answer_of o = told o
 
 -- the answer to a call
 abbrev pub turn_answer : TurnState → Call → Result (Unit {0}) TurnRefusal

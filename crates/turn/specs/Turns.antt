@@ -2,6 +2,8 @@
 use Rattle.std.specs.Prelude.{◌≡◌, ℕ, ◌≤◌, cond, List, [], ◌∷◌, length, Some, None, Option}
 use Rattle.book.specs.Entered.{entered}
 use Rattle.book.specs.declared.Book as lent
+use Rattle.block.specs.declared.order.Phase.{Phase}
+use Rattle.line.specs.Lines.{made}
 use Rattle.rules.specs.Slips.{seal_row_of}
 use Rattle.rules.specs.declared.calls.Call.{Call}
 use Rattle.rules.specs.declared.slips.SealRow.{SealRow}
@@ -15,6 +17,14 @@ use Rattle.turn.specs.declared.rows.RegisterRow.{RegisterRow}
 -- a book's rows and room
 abbrev pub book_of : {Row : Type 0} → lent.Book Row → Book Row
 book_of b = record { rows = entered b.len b.rows.now; room = length b.rows.now }
+
+-- a turn that begins, over an instrument of these phases and slices of so many places
+abbrev pub begun : List Phase → ℕ → ℕ → TurnState
+begun ps rows seals = record {
+  line = made ps;
+  register = record { rows = []; room = rows };
+  seals = record { rows = []; room = seals };
+}
 
 -- whether the books have room for a call
 abbrev pub admission : Book RegisterRow → Book SealRow → Call → Option TurnRefusal

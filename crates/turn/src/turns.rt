@@ -1,7 +1,7 @@
 // A turn: one line and two books.
-ghost use Rattle.std.specs.Prelude.{◌≡◌, true, false, is_some};
+ghost use Rattle.std.specs.Prelude.{◌≡◌, true, false, length, is_some};
 ghost use Rattle.turn.specs.Turn.{full, answer_of, turn_answer, step};
-ghost use Rattle.turn.specs.Turns.{book_of, admission, noted};
+ghost use Rattle.turn.specs.Turns.{book_of, begun, admission, noted};
 
 use crate::refusals::TurnRefusal;
 use crate::rows::RegisterRow;
@@ -30,8 +30,15 @@ impl<'a, I: BlockInstrument> Model for Turn<'a, I> {
 }
 
 impl<'a, I: BlockInstrument> Turn<'a, I> {
+    // A turn that begins: a new line over an instrument, and two empty books over lent slices.
+    pub fn new(instrument: I, rows: &'a mut [RegisterRow], slips: &'a mut [SealRow]) -> Turn<'a, I>
+        ensures { result ≡ begun (I.phases instrument) (length rows.old) (length slips.old) }
+    {
+        Turn::over(Line::new(instrument), Book::new(rows), Book::new(slips))
+    }
+
     // A turn over a line and two books, as they stand.
-    pub fn new(
+    pub fn over(
         line: Line<I>,
         register: Book<'a, RegisterRow>,
         seals: Book<'a, SealRow>,
@@ -57,6 +64,12 @@ impl<'a, I: BlockInstrument> Turn<'a, I> {
         &self.register
     }
 
+    pub fn seals(&self) -> &Book<'a, SealRow>
+        ensures { book_of result.now ≡ self.now.seals }
+    {
+        &self.seals
+    }
+
     // Whether the books have room: the register for every call, the seal book for an unsealing.
     fn admit(&self, call: Call) -> Result<(), TurnRefusal>
         ensures { result ≡ answer_of (admission self.now.register self.now.seals call) }
@@ -78,12 +91,11 @@ impl<'a, I: BlockInstrument> Turn<'a, I> {
     {
         let place = self.register.len();
         let _ = self.register.add(row);
-        match slip {
-            None => {}
-            Some(slip) => match slip.enter(place, &mut self.seals) {
+        if let Some(slip) = slip {
+            match slip.enter(place, &mut self.seals) {
                 Ok(()) => {}
                 Err(_owed) => unreachable!(),
-            },
+            }
         }
     }
 

@@ -1,7 +1,8 @@
 // The line's own checks of a call, in their order.
 ghost use Rattle.std.specs.Prelude.{◌≡◌, [], ◌∷◌, Option};
-ghost use Rattle.rules.specs.Checks.{told, refused_if, first_refusal, own_checks, section_unknown, post_unknown, train_present, table_full, train_absent, train_unknown, home_open, home_shut, elsewhere};
-ghost use Rattle.line.specs.Working.{way_told};
+ghost use Rattle.rules.specs.Checks.{told, refused_if, first_refusal, section_unknown, post_unknown, train_present, table_full, train_absent, train_unknown, home_open, home_shut, elsewhere};
+ghost use Rattle.rules.specs.State.{signals, section_at};
+ghost use Rattle.line.specs.Working.{way_told, own_answer};
 ghost use Rattle.rules.specs.declared.calls.Call.TheVariants.{PlaceTrain, WithdrawTrain, GiveRelease, CloseSignal, EnterSection, ReturnRelease, OpenHome, ShutHome, ReachPedal, LeaveSection, ClearSection, UnsealSection};
 
 use crate::lines::Line;
@@ -9,7 +10,7 @@ use block::instruments::BlockInstrument;
 use block::order::Direction;
 use rules::calls::Call;
 use rules::refusals::LineRefusal;
-use rules::signals::{BlockSignal, HomeSignal};
+use rules::signals::Signals;
 
 const LAST_TRAIN: u32 = 99_999;
 
@@ -23,7 +24,10 @@ fn refuse_if(ground: bool, refusal: LineRefusal) -> Result<(), LineRefusal>
 fn check_train(train: u32) -> Result<(), LineRefusal>
     ensures { result ≡ told (train_unknown train) }
 {
-    refuse_if(train < 1 || train > LAST_TRAIN, LineRefusal::TrainUnknown)
+    refuse_if(
+        !(1..=LAST_TRAIN).contains(&train),
+        LineRefusal::TrainUnknown,
+    )
 }
 
 impl<I: BlockInstrument> Line<I> {
@@ -42,6 +46,7 @@ impl<I: BlockInstrument> Line<I> {
         refuse_if(post > self.instrument.count(), LineRefusal::PostUnknown)
     }
 
+    // This check and the next are opposites, each with its own refusal; so are the two of a home signal.
     fn check_new(&self, train: u32) -> Result<(), LineRefusal>
         ensures { result ≡ told (train_present self.now train) }
     {
@@ -66,24 +71,30 @@ impl<I: BlockInstrument> Line<I> {
         refuse_if(!self.trains.has_room(), LineRefusal::TableFull)
     }
 
+    fn signals(&self, section: u32, direction: Direction) -> Signals
+        ensures { result ≡ signals direction (section_at self.now.sections section) }
+    {
+        self.section(section).signals(direction)
+    }
+
     fn check_home_shut(&self, section: u32, direction: Direction) -> Result<(), LineRefusal>
         ensures { result ≡ told (home_open self.now section direction) }
     {
-        let signals = self.section(section).signals(direction);
-        refuse_if(signals.home.is_open(), LineRefusal::HomeSignalWrong)
+        let home = self.signals(section, direction).home;
+        refuse_if(home.is_open(), LineRefusal::HomeSignalWrong)
     }
 
     fn check_home_open(&self, section: u32, direction: Direction) -> Result<(), LineRefusal>
         ensures { result ≡ told (home_shut self.now section direction) }
     {
-        let signals = self.section(section).signals(direction);
-        refuse_if(!signals.home.is_open(), LineRefusal::HomeSignalWrong)
+        let home = self.signals(section, direction).home;
+        refuse_if(!home.is_open(), LineRefusal::HomeSignalWrong)
     }
 }
 
 impl<I: BlockInstrument> Line<I> {
     fn may_place(&self, train: u32, post: u32) -> Result<(), LineRefusal>
-        ensures { result ≡ told (first_refusal (own_checks self.now (PlaceTrain train post))) }
+        ensures { result ≡ own_answer self.now (PlaceTrain train post) }
     {
         check_train(train)?;
         self.check_post(post)?;
@@ -92,7 +103,7 @@ impl<I: BlockInstrument> Line<I> {
     }
 
     fn may_withdraw(&self, train: u32) -> Result<(), LineRefusal>
-        ensures { result ≡ told (first_refusal (own_checks self.now (WithdrawTrain train))) }
+        ensures { result ≡ own_answer self.now (WithdrawTrain train) }
     {
         check_train(train)?;
         self.check_present(train)?;
@@ -100,31 +111,31 @@ impl<I: BlockInstrument> Line<I> {
     }
 
     fn may_close(&self, section: u32, direction: Direction) -> Result<(), LineRefusal>
-        ensures { result ≡ told (first_refusal (own_checks self.now (CloseSignal section direction))) }
+        ensures { result ≡ own_answer self.now (CloseSignal section direction) }
     {
         self.check_section(section)?;
-        let signals = self.section(section).signals(direction);
-        refuse_if(signals.block.is_closed(), LineRefusal::BlockSignalWrong)
+        let block = self.signals(section, direction).block;
+        refuse_if(block.is_closed(), LineRefusal::BlockSignalWrong)
     }
 
     fn may_return(&self, section: u32, direction: Direction) -> Result<(), LineRefusal>
-        ensures { result ≡ told (first_refusal (own_checks self.now (ReturnRelease section direction))) }
+        ensures { result ≡ own_answer self.now (ReturnRelease section direction) }
     {
         self.check_section(section)?;
-        let signals = self.section(section).signals(direction);
-        refuse_if(!signals.block.is_closed(), LineRefusal::BlockSignalWrong)
+        let block = self.signals(section, direction).block;
+        refuse_if(!block.is_closed(), LineRefusal::BlockSignalWrong)
     }
 
     // A home signal is opened, and a section restored, under a shut home signal.
     fn may_open_home(&self, section: u32, direction: Direction) -> Result<(), LineRefusal>
-        ensures { result ≡ told (first_refusal (own_checks self.now (OpenHome section direction))) }
+        ensures { result ≡ own_answer self.now (OpenHome section direction) }
     {
         self.check_section(section)?;
         self.check_home_shut(section, direction)
     }
 
     fn may_shut_home(&self, section: u32, direction: Direction) -> Result<(), LineRefusal>
-        ensures { result ≡ told (first_refusal (own_checks self.now (ShutHome section direction))) }
+        ensures { result ≡ own_answer self.now (ShutHome section direction) }
     {
         self.check_section(section)?;
         self.check_home_open(section, direction)?;
@@ -135,7 +146,7 @@ impl<I: BlockInstrument> Line<I> {
     }
 
     fn may_clear(&self, section: u32, direction: Direction) -> Result<(), LineRefusal>
-        ensures { result ≡ told (first_refusal (own_checks self.now (ClearSection section direction))) }
+        ensures { result ≡ own_answer self.now (ClearSection section direction) }
     {
         self.check_section(section)?;
         self.check_home_shut(section, direction)?;
@@ -143,7 +154,7 @@ impl<I: BlockInstrument> Line<I> {
     }
 
     fn may_unseal(&self, section: u32, direction: Direction) -> Result<(), LineRefusal>
-        ensures { result ≡ told (first_refusal (own_checks self.now (UnsealSection section direction))) }
+        ensures { result ≡ own_answer self.now (UnsealSection section direction) }
     {
         self.check_section(section)?;
         self.check_home_shut(section, direction)?;
@@ -170,16 +181,16 @@ impl<I: BlockInstrument> Line<I> {
     }
 
     fn may_enter(&self, train: u32, section: u32) -> Result<(), LineRefusal>
-        ensures { result ≡ told (first_refusal (own_checks self.now (EnterSection train section))) }
+        ensures { result ≡ own_answer self.now (EnterSection train section) }
     {
         let way = self.direction_of(Call::EnterSection { train, section });
         let direction = self.way_of(train, section, way)?;
-        let signals = self.section(section).signals(direction);
-        refuse_if(!signals.block.is_open(), LineRefusal::BlockSignalWrong)
+        let block = self.signals(section, direction).block;
+        refuse_if(!block.is_open(), LineRefusal::BlockSignalWrong)
     }
 
     fn may_reach(&self, train: u32, section: u32) -> Result<(), LineRefusal>
-        ensures { result ≡ told (first_refusal (own_checks self.now (ReachPedal train section))) }
+        ensures { result ≡ own_answer self.now (ReachPedal train section) }
     {
         let way = self.direction_of(Call::ReachPedal { train, section });
         let direction = self.way_of(train, section, way)?;
@@ -187,7 +198,7 @@ impl<I: BlockInstrument> Line<I> {
     }
 
     fn may_leave(&self, train: u32, section: u32) -> Result<(), LineRefusal>
-        ensures { result ≡ told (first_refusal (own_checks self.now (LeaveSection train section))) }
+        ensures { result ≡ own_answer self.now (LeaveSection train section) }
     {
         let way = self.direction_of(Call::LeaveSection { train, section });
         self.way_of(train, section, way)?;
@@ -196,7 +207,7 @@ impl<I: BlockInstrument> Line<I> {
 
     // The line's own checks. A give and an open are the instrument's to refuse.
     pub(super) fn examine(&self, call: Call) -> Result<(), LineRefusal>
-        ensures { result ≡ told (first_refusal (own_checks self.now call)) }
+        ensures { result ≡ own_answer self.now call }
     {
         match call {
             Call::PlaceTrain { train, post } => self.may_place(train, post),

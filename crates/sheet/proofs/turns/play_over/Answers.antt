@@ -1,4 +1,4 @@
-use Rattle.std.proofs.Common.{◌≡◌, ◌≤◌, ◌++◌, length, refl, ap, ◌∙◌, arith}
+use Rattle.std.proofs.Common.{[], ◌≡◌, ◌≤◌, ◌++◌, length, ap, ◌∙◌, arith}
 use Rattle.answers.specs.Texts.{heading_text}
 use Rattle.reading.specs.Lines.{lines}
 use Rattle.turn.proofs.Playing.{lawful}
@@ -6,7 +6,7 @@ use Rattle.turn.specs.Turn.{run}
 use Rattle.writing.specs.Facts.{writes_then, writes_as}
 use Rattle.sheet.specs.Played.{readable, line_answers}
 use Rattle.sheet.specs.Sheets.{first_turn, end_text}
-use Rattle.sheet.proofs.Beginning.{made_new, begins_new, empty_book}
+use Rattle.sheet.proofs.Beginning.{made_new, begins_new}
 use Rattle.sheet.proofs.Lengths.{run_rows, few_calls, played_short, whole_text}
 use Rattle.sheet.proofs.turns.play_over.Goals as goal
 
@@ -17,10 +17,8 @@ returns g c =
     let good = c.requires.good in
     let ls = lines c.args.sheet.now in
     let t = c.new-turn.result in
-    let line = c.new.ensures ∙ made_new (phases c.args.instrument) h.sections c.requires.at_rest good.some in
-    let register = empty_book c.new-register.result _ 1000 c.new-register.ensures.empty c.new-register.ensures.lent refl in
-    let seals = empty_book c.new-seals.result _ 50 c.new-seals.ensures.empty c.new-seals.ensures.lent refl in
-    let start : t ≡ first_turn h = c.new-turn.ensures ∙ (λ i. record { line = line i; register = register i; seals = seals i }) in
+    let line = made_new (phases c.args.instrument) h.sections c.requires.at_rest good.some in
+    let start : t ≡ first_turn h = c.new-turn.ensures ∙ ap (λ l. record { line = l; register = record { rows = []; room = 1000 }; seals = record { rows = []; room = 50 } }) line in
     let end = c.play_lines.new.turn in
     let ran : end ≡ run (first_turn h) (readable ls) = c.play_lines.ensures.played ∙ ap (λ u. run u (readable ls)) start in
     let answers = writes_as (ap (λ u. line_answers 2 u ls) start) c.play_lines.ensures.answered in

@@ -7,11 +7,6 @@ use Rattle.trains.specs.Trains.{is_inside, place_in}
 use Rattle.trains.proofs.Searches.{number_found}
 use Rattle.trains.proofs.table.TrainTable.train_inside.Goals as goal
 
-pub returns-in_err-find : goal.returns-in_err-find
-returns-in_err-find c =
-    let found = find_from_yields_List (λ r. is_inside c.args.section (place_in r.train)) _ _ c.find.result c.find.ensures.ran (YieldsList-from_slice c.self.inside.records cc) (λ x b q k. search (rules, tests)) in
-    grind (arith, common_steps, number_found)
-
 pub returns : goal.returns
 returns c =
     let found = find_from_yields_List (λ r. is_inside c.args.section (place_in r.train)) _ _ c.find.result c.find.ensures.ran (YieldsList-from_slice c.self.inside.records cc) (λ x b q k. search (rules, tests)) in

@@ -2,11 +2,11 @@ use Rattle.std.proofs.Common.{is_some, Err, sym, ap, ◌∙◌}
 use Rattle.std.proofs.lemmas.Result.{err_from_is_err_and}
 use Rattle.std.specs.Option.{option_map}
 use Rattle.line.specs.Lines.{line_answer, line_after}
-use Rattle.line.proofs.Parts.{after_refused, after_accepted}
+use Rattle.line.proofs.Parts.{after_refused, after_accepted, told_ok, told_err}
 use Rattle.turn.specs.Rows.{row_of}
 use Rattle.turn.specs.Turn.{TurnState, full, answer_of}
 use Rattle.turn.specs.declared.refusals.TurnRefusal.TheVariants.{Line}
-use Rattle.turn.proofs.Calls.{admitted_err, admitted_ok, line_err, line_ok, not_admitted, left_to_line, has_room, slip_room, noted_worked}
+use Rattle.turn.proofs.Calls.{line_err, line_ok, not_admitted, left_to_line, has_room, slip_room, noted_worked}
 use Rattle.turn.proofs.Runs.{stepped, stayed}
 use Rattle.turn.proofs.turns.Turn.work.Goals as goal
 
@@ -14,7 +14,7 @@ pub returns-in_err-admit : goal.returns-in_err-admit
 returns-in_err-admit g c =
     let t = c.args.self.now in
     let p = err_from_is_err_and c.from_residual.result c.from_residual.ensures.1 in
-    let refused = not_admitted t c.args.call _ (admitted_err _ _ (sym c.admit.ensures ∙ c.in_err-admit.was)) in
+    let refused = not_admitted t c.args.call _ (told_err _ _ (sym c.admit.ensures ∙ c.in_err-admit.was)) in
     record {
       answered = p.1 ∙ ap Err p.2 ∙ sym (ap answer_of refused);
       followed = sym (stayed t c.args.call _ refused);
@@ -25,7 +25,7 @@ returns-in_err-slip g c =
     let t = c.args.self.now in
     let call = c.args.call in
     let p = err_from_is_err_and c.from_residual-in_err-slip.result c.from_residual-in_err-slip.ensures.1 in
-    let room = admitted_ok _ (sym c.admit.ensures ∙ c.in_ok-admit.was) in
+    let room = told_ok _ (sym c.admit.ensures ∙ c.in_ok-admit.was) in
     let answered = c.call.ensures.answered ∙ ap (λ (x : TurnState). line_answer x.line call) c.self.view_is in
     let line = line_err _ _ _ (sym answered ∙ c.in_err-slip.was) in
     let refused = left_to_line t call room ∙ ap (option_map Line) line in
@@ -38,7 +38,7 @@ returns-in_err-slip g c =
 pub note-requires : goal.note-requires
 note-requires g c =
     let t = c.args.self.now in
-    let room = has_room t.register t.seals c.args.call (admitted_ok _ (sym c.admit.ensures ∙ c.in_ok-admit.was)) in
+    let room = has_room t.register t.seals c.args.call (told_ok _ (sym c.admit.ensures ∙ c.in_ok-admit.was)) in
     let answered = c.call.ensures.answered ∙ ap (λ (x : TurnState). line_answer x.line c.args.call) c.self.view_is in
     let slip = (line_ok _ _ _ (sym answered ∙ c.in_ok-slip.was)).1 in
     record {
@@ -50,7 +50,7 @@ pub returns : goal.returns
 returns g c =
     let t = c.args.self.now in
     let call = c.args.call in
-    let room = admitted_ok _ (sym c.admit.ensures ∙ c.in_ok-admit.was) in
+    let room = told_ok _ (sym c.admit.ensures ∙ c.in_ok-admit.was) in
     let answered = c.call.ensures.answered ∙ ap (λ (x : TurnState). line_answer x.line call) c.self.view_is in
     let line = line_ok _ _ _ (sym answered ∙ c.in_ok-slip.was) in
     let accepted = left_to_line t call room ∙ ap (option_map Line) line.0 in
