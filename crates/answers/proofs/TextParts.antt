@@ -1,20 +1,18 @@
 -- The texts, opened.
-use Rattle.std.proofs.Common.{◌≡◌, ℕ, suc, ◌+◌, ◌<◌, cond, List, [], ◌∷◌, ◌++◌, length, None, Ok, Err, decimal, unwrap_or, refl, ap, arith, lt-ltb}
-use Rattle.block.specs.Meaning.{phase_at, phase_answer}
+use Rattle.std.proofs.Common.{◌≡◌, ℕ, suc, ◌+◌, List, [], ◌∷◌, ◌++◌, Ok, Err, decimal, unwrap_or, refl, ap, arith}
+use Rattle.block.specs.Meaning.{phase_at}
 use Rattle.block.specs.Order.{phase_code}
-use Rattle.block.specs.declared.order.Phase.{Phase}
-use Rattle.block.specs.declared.refusals.InstrumentRefusal.TheVariants.{NoSection}
 use Rattle.reading.specs.Written.{space, line_feed}
 use Rattle.rules.specs.State.{LineState}
 use Rattle.trains.specs.Trains.{number_inside}
 use Rattle.turn.specs.Rows.{tally}
 use Rattle.turn.specs.declared.rows.Kind.TheVariants.{Giving, Leaving, Unsealing}
 use Rattle.turn.specs.declared.rows.RegisterRow.{RegisterRow}
-use Rattle.answers.specs.Numbers.{line_refusal_number, refusal_values, sheet_number}
+use Rattle.answers.specs.Numbers.{line_refusal_number, refusal_values}
 use Rattle.answers.specs.Texts.{fields_of, refused, refusal_text, told_text, section_text, section_texts}
 use Rattle.answers.specs.declared.refusals.RefusedLine.{RefusedLine}
 use Rattle.answers.specs.declared.refusals.SheetRefusal.{SheetRefusal}
-use Rattle.answers.specs.declared.refusals.SheetRefusal.TheVariants.{TooLong, BadHeading, ShortBuffer, Line}
+use Rattle.answers.specs.declared.refusals.SheetRefusal.TheVariants.{Line}
 
 pub ok_text : (n : ℕ) → told_text n (Ok tt) ≡ decimal n ++ (space ∷ 111 ∷ 107 ∷ line_feed ∷ [])
 unfolding told_text
@@ -27,13 +25,6 @@ err_text n e = refl
 pub line_text : (r : RefusedLine) → refusal_text (Line r) ≡ decimal r.line ++ (space ∷ []) ++ refused (line_refusal_number r.refusal ∷ refusal_values r.refusal)
 unfolding refusal_text
 line_text r = refl
-
-pub whole_text : (e : SheetRefusal) → ((r : RefusedLine) → e ≡ Line r → ⊥) → refusal_text e ≡ refused (sheet_number e ∷ [])
-unfolding refusal_text
-whole_text TooLong h = refl
-whole_text BadHeading h = refl
-whole_text ShortBuffer h = refl
-whole_text (Line r) h = absurd (h r refl)
 
 -- the numbers of a section's line
 abbrev pub section_values : LineState → List RegisterRow → ℕ → List ℕ

@@ -15,6 +15,7 @@ use turn::turns::Turn;
 use writing::put;
 
 // The number of the phase, which an answer tells.
+#[tactic(auto, using(block::proofs::Laws::phase_there))]
 fn phase_code<I: BlockInstrument>(line: &Line<I>, section: u32) -> u8
     requires { section < count line.now }
     ensures { result ≡ phase_code (phase_at line.now.phases section) }
@@ -26,6 +27,7 @@ fn phase_code<I: BlockInstrument>(line: &Line<I>, section: u32) -> u8
 }
 
 // One section: its phase, the train inside or 0, and its tally. It takes at most 33 bytes.
+#[tactic(auto, using(writing::specs::Facts::wrote_twice, crate::proofs::Bounds::section_short, crate::proofs::TextParts::one_section), unfolding(crate::specs::Texts::section_text))]
 fn put_section<I: BlockInstrument>(answer: &mut Book<'_, u8>, turn: &Turn<'_, I>, section: u32)
     requires { section < count turn.now.line }
     ensures written { Writes (section_text turn.now.line turn.now.register.rows section) answer.old answer.new }
@@ -50,6 +52,7 @@ fn put_section<I: BlockInstrument>(answer: &mut Book<'_, u8>, turn: &Turn<'_, I>
 }
 
 // Every section in turn, in at most 33 bytes each.
+#[tactic(auto, using(writing::specs::Facts::wrote_nothing, writing::specs::Facts::wrote_twice, crate::proofs::TextParts::next_section, std::proofs::Common::append_assoc))]
 pub fn put_sections<I: BlockInstrument>(answer: &mut Book<'_, u8>, turn: &Turn<'_, I>)
     ensures written { Writes (section_texts turn.now.line turn.now.register.rows (count turn.now.line)) answer.old answer.new }
     ensures short { length turn.now.register.rows < 10000 → length (section_texts turn.now.line turn.now.register.rows (count turn.now.line)) ≤ 33 * 16 }

@@ -13,6 +13,7 @@ use turn::refusals::TurnRefusal;
 use writing::{put, put_field, put_number, put_text};
 
 // Each number as a field of its own.
+#[tactic(auto, using(writing::specs::Facts::wrote_nothing, writing::specs::Facts::wrote_twice, crate::proofs::Chains::fields_last, std::proofs::lemmas::List::take_more))]
 pub(crate) fn put_fields(answer: &mut Book<'_, u8>, numbers: &[usize])
     ensures { Writes (fields_of numbers.now) answer.old answer.new }
 {
@@ -22,6 +23,7 @@ pub(crate) fn put_fields(answer: &mut Book<'_, u8>, numbers: &[usize])
 }
 
 // The first line of an answer.
+#[tactic(auto, using(writing::specs::Facts::wrote_twice))]
 pub fn put_heading(answer: &mut Book<'_, u8>, heading: Heading)
     ensures { Writes (heading_text heading) answer.old answer.new }
 {
@@ -34,6 +36,7 @@ pub fn put_heading(answer: &mut Book<'_, u8>, heading: Heading)
 }
 
 // The section and the phase found, where the instrument has that section.
+#[tactic(auto, using(writing::specs::Facts::wrote_nothing, crate::proofs::Valueless::found_both))]
 fn put_found(answer: &mut Book<'_, u8>, refusal: InstrumentRefusal)
     ensures { Writes (fields_of (found_values refusal)) answer.old answer.new }
 {
@@ -47,6 +50,7 @@ fn put_found(answer: &mut Book<'_, u8>, refusal: InstrumentRefusal)
 }
 
 // One refusal opens the next: of the last arm of a nested pattern a proof does not know what it is not.
+#[tactic(auto, using(writing::specs::Facts::wrote_nothing, crate::proofs::Valueless::line_valueless))]
 fn put_line_values(answer: &mut Book<'_, u8>, refusal: LineRefusal)
     ensures { Writes (fields_of (line_values refusal)) answer.old answer.new }
 {
@@ -55,6 +59,7 @@ fn put_line_values(answer: &mut Book<'_, u8>, refusal: LineRefusal)
     }
 }
 
+#[tactic(auto, using(writing::specs::Facts::wrote_nothing, crate::proofs::Valueless::turn_valueless))]
 fn put_turn_values(answer: &mut Book<'_, u8>, refusal: TurnRefusal)
     ensures { Writes (fields_of (turn_values refusal)) answer.old answer.new }
 {
@@ -74,6 +79,7 @@ fn put_values(answer: &mut Book<'_, u8>, refusal: SheetLineRefusal)
 }
 
 // A refusal: of a line with its number in front, of a whole sheet with none.
+#[tactic(auto, using(writing::specs::Facts::wrote_twice, std::proofs::Common::append_assoc), unfolding(crate::specs::Texts::refusal_text))]
 pub fn put_refusal(answer: &mut Book<'_, u8>, refusal: SheetRefusal)
     ensures { Writes (refusal_text refusal) answer.old answer.new }
 {
@@ -93,6 +99,7 @@ pub fn put_refusal(answer: &mut Book<'_, u8>, refusal: SheetRefusal)
 }
 
 // The answer to a line of a sheet, by the line's number.
+#[tactic(auto, using(writing::specs::Facts::wrote_twice), unfolding(crate::specs::Texts::told_text))]
 pub fn put_told(answer: &mut Book<'_, u8>, line: usize, told: Result<(), SheetRefusal>)
     ensures { Writes (told_text line told) answer.old answer.new }
 {

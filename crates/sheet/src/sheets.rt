@@ -23,6 +23,7 @@ pub const MOST_ANSWER: usize = 30_600;
 
 // Plays a sheet and writes its answer at the front of the buffer; how many bytes that are. Every byte past them is as it was,
 // and all of them where the sheet is refused whole.
+#[tactic(auto, using(crate::proofs::Answering::too_many_bytes, crate::proofs::Answering::too_many_lines, crate::proofs::Answering::too_little_room, crate::proofs::Answering::left_to_heading, crate::proofs::Answering::no_line, crate::proofs::Answering::no_heading))]
 pub fn play_sheet(sheet: &[u8], answer: &mut [u8]) -> Result<usize, SheetRefusal>
     ensures answered { result ≡ answer_length (sheet_answer (length answer.old) sheet.now) }
     ensures written { answer.new ≡ answered_buffer (sheet_answer (length answer.old) sheet.now) answer.old }
@@ -49,6 +50,7 @@ pub fn play_sheet(sheet: &[u8], answer: &mut [u8]) -> Result<usize, SheetRefusal
 
 // Plays a sheet and writes what a program prints of it: its answer, or the refusal of the whole sheet. How many bytes that are; what
 // the buffer has no room for is lost.
+#[tactic(auto, using(crate::proofs::Printing::printed_err))]
 pub fn print_sheet(sheet: &[u8], buffer: &mut [u8]) -> usize
     ensures printed { take result buffer.new ≡ take (length buffer.old) (printed (sheet_answer (length buffer.old) sheet.now)) }
     ensures within { result ≤ length buffer.old }

@@ -46,6 +46,7 @@ where
 }
 
 // The same over a mixed pile: the first sections interlocked, as many as the heading says, and the others by telephone.
+#[tactic(auto, using(crate::proofs::Beginning::pile_rest))]
 pub(crate) fn play_turn(heading: Heading, sheet: &[u8], answer: &mut Book<'_, u8>)
     requires good { GoodHeading heading }
     ensures answered { Writes (played_text heading (lines sheet.now)) answer.old answer.new }

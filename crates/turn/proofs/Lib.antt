@@ -20,4 +20,3 @@ pub mod AlikeTurns
 pub mod Law
 pub mod Calls
 pub mod Playing
-pub mod Counting

@@ -35,9 +35,6 @@ other_train : {m n : ℕ} → (m ≡ n → ⊥) → (o : Option ℕ) → o ≡ S
 other_train apart o is h = apart (some_same (sym h ∙ is))
 
 -- inside no section
-outside_at : (j p : ℕ) → inside_at j (Some (AtPost p)) ≡ None
-outside_at j p = refl
-
 pub running_at : (k : ℕ) (d : Direction) → inside_at k (Some (Running k d)) ≡ Some (Running k d)
 running_at k d = ap (λ b. cond b (Some (Running k d)) None) (eq-eqb k k refl)
 

@@ -41,7 +41,3 @@ home_beside_block Up Up b x = refl
 home_beside_block Up Down b x = refl
 home_beside_block Down Up b x = refl
 home_beside_block Down Down b x = refl
-
-pub home_beside_pedal : (e : Direction) (m : Bool) (x : SectionState) → home_signal e (with_pedal m x) ≡ home_signal e x
-home_beside_pedal Up m x = refl
-home_beside_pedal Down m x = refl

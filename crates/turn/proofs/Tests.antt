@@ -1,5 +1,5 @@
 -- Small facts about options, tests and functions changed at one number.
-use Rattle.std.proofs.Common.{◌≡◌, ℕ, Bool, true, false, cond, not, ◌||◌, eqb, Some, None, sym, refl, ap, subst, ⊎_elim, arith, eq-eqb, ne_eqb}
+use Rattle.std.proofs.Common.{◌≡◌, ℕ, Bool, true, false, cond, not, eqb, Some, None, sym, refl, ap, subst, ⊎_elim, arith, eq-eqb, ne_eqb}
 use Rattle.std.proofs.lemmas.Bool.{cases_eq}
 
 pub none_some : {X : Type 0} {x : X} → None ≡ Some x → ⊥
@@ -14,10 +14,6 @@ true_false e = let z : ◌≡◌ {A = ℕ} 0 1 = cc in omega arith
 pub not_false : (b : Bool) → not b ≡ false → b ≡ true
 not_false true e = refl
 not_false false e = cc
-
-pub or_false : (a b : Bool) → (a || b) ≡ false → (a ≡ false) × (b ≡ false)
-or_false true b e = absurd (true_false e)
-or_false false b e = (refl, e)
 
 -- a function changed at one number
 abbrev pub at : {X : Type 0} → ℕ → X → (ℕ → X) → ℕ → X

@@ -69,9 +69,6 @@ module _ (rows : List RegisterRow) (n : ℕ) (x : RegisterRow) where
       (λ p. inr (ap (λ y. y.kind) p.1 ∙ l.kind_is, ap (λ y. y.train) p.1 ∙ l.train_is))
       (either rows x l.place l.row l.stands)
 
-  came_below : (i : ℕ) → Came rows n i → i < length rows
-  came_below i c = below rows i c.row c.stands
-
   module _ (no-entry : x.kind ≡ Entry → x.train ≡ Some n → ⊥) where
     outside_past : Outside rows n → Outside (rows ++ x ∷ []) n
     outside_past o i c = ⊎_elim (λ h. left_older i (o i h)) (λ p. absurd (no-entry p.1.0 p.1.1)) (came_either i c)

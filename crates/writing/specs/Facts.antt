@@ -1,6 +1,6 @@
 -- What a caller's proof cites of writing.
 use Rattle.std.specs.Prelude.{◌≡◌, ℕ, ◌≤◌, List, [], ◌∷◌, ◌++◌, length, take, drop, refl}
-use Rattle.std.proofs.Common.{append_assoc, append-nil, sym, ap, ◌∙◌, subst, arith, length-append, take_all, drop-drop}
+use Rattle.std.proofs.Common.{append_assoc, append-nil, sym, ap, ◌∙◌, arith, length-append, take_all, drop-drop}
 use Rattle.book.specs.declared.Book as lent
 use Rattle.writing.specs.Pens.{Pen, pen_of, wrote, Writes}
 
@@ -39,9 +39,6 @@ wrote_then p a b first next = next ∙ ap (wrote b) first ∙ wrote_twice a b p
 
 -- THE SAME OF A BOOK
 
-pub writes_nothing : (b : lent.Book ℕ) → Writes [] b b
-writes_nothing b = record { wrote = sym (wrote_nothing (pen_of b)); room = refl; lender = refl }
-
 pub writes_then : {p q r : lent.Book ℕ} (a b : List ℕ) → Writes a p q → Writes b q r → Writes (a ++ b) p r
 writes_then {p = p} a b first next = record {
   wrote = wrote_then (pen_of p) a b first.wrote next.wrote;
@@ -52,7 +49,3 @@ writes_then {p = p} a b first next = record {
 -- what was written, said of another text that is the same
 pub writes_as : {p q : lent.Book ℕ} {a b : List ℕ} → a ≡ b → Writes a p q → Writes b p q
 writes_as {p = p} same w = record { wrote = w.wrote ∙ ap (λ t. wrote t (pen_of p)) same; room = w.room; lender = w.lender }
-
--- the same book by another name
-pub writes_at : {p q r : lent.Book ℕ} {a : List ℕ} → r ≡ q → Writes a p q → Writes a p r
-writes_at {p = p} {a = a} same w = subst (λ b. Writes a p b) (sym same) w

@@ -1,12 +1,8 @@
-use Rattle.std.proofs.Common.{◌≡◌, length, ap, ◌∙◌, arith, length-append}
+use Rattle.std.proofs.Common.{length, ap, arith, length-append}
 use Rattle.answers.proofs.TextParts.{next_section}
 use Rattle.answers.specs.Texts.{section_text, section_texts}
-use Rattle.rules.specs.State.{count}
-use Rattle.writing.specs.Facts.{writes_nothing, writes_then, writes_as}
+use Rattle.writing.specs.Facts.{writes_then, writes_as}
 use Rattle.answers.proofs.sections.put_sections.Goals as goal
-
-pub loop-section-init : goal.loop-section-init
-loop-section-init g c = record { written = writes_nothing _; short = λ few some. omega arith }
 
 pub loop-section-preserved : goal.loop-section-preserved
 loop-section-preserved g c =
@@ -23,16 +19,4 @@ loop-section-preserved g c =
         length-append (section_texts s rows k) (section_text s rows k),
         ap length (next_section s rows k),
       );
-    }
-
-pub returns : goal.returns
-returns g c =
-    let s = c.args.turn.now.line in
-    let rows = c.args.turn.now.register.rows in
-    let most = c.count-section-end.ensures.few in
-    let at_end : c.count-section-end.result ≡ count s = c.count-section-end.ensures.value ∙ ap count c.line.ensures in
-    let end : c.loop-section.section ≡ count s = let low = c.loop-section-test.false in let high = c.loop-section.auto.section-end in omega (arith, at_end) in
-    record {
-      written = writes_as (ap (section_texts s rows) end) c.loop-section.invariant.written;
-      short = λ some. omega (arith, c.loop-section.invariant.short (omega arith) some, end, at_end, ap (λ k. length (section_texts s rows k)) end);
     }

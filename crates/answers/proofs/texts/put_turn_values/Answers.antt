@@ -1,8 +1,0 @@
-use Rattle.std.proofs.Common.{sym, ap}
-use Rattle.answers.proofs.Valueless.{turn_valueless}
-use Rattle.answers.specs.Texts.{fields_of}
-use Rattle.writing.specs.Facts.{writes_nothing, writes_as}
-use Rattle.answers.proofs.texts.put_turn_values.Goals as goal
-
-pub returns-in_default : goal.returns-in_default
-returns-in_default c = writes_as (ap fields_of (sym (turn_valueless c.args.refusal c.in_default.not-Line))) (writes_nothing _)
