@@ -26,7 +26,8 @@ fn phase_code<I: BlockInstrument>(line: &Line<I>, section: u32) -> u8
     }
 }
 
-// One section: its phase, the train inside or 0, and its tally. It takes at most 33 bytes.
+// One section: its phase, the train inside or 0, and its tally. It takes at most 33 bytes. What shift prints of a section is a text of
+// its own, with the same numbers.
 #[tactic(auto, using(writing::specs::Facts::wrote_twice, crate::proofs::Bounds::section_short, crate::proofs::TextParts::one_section), unfolding(crate::specs::Texts::section_text))]
 fn put_section<I: BlockInstrument>(answer: &mut Book<'_, u8>, turn: &Turn<'_, I>, section: u32)
     requires { section < count turn.now.line }

@@ -12,6 +12,7 @@ use sheet::plays::play_lines;
 use turn::rows::{BLANK_ROW, RegisterRow};
 use turn::turns::Turn;
 
+// A short name for the calls below; each program has its own.
 const UP: Direction = Direction::Up;
 
 const FULL_REGISTER: Case = Case {

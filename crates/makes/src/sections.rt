@@ -43,8 +43,8 @@ pub trait SectionRecord: Copy {
 }
 
 // An instrument of at most sixteen sections, each kept as a record of its make. The records stand in an array with their
-// count beside it: a list that grows would take its memory from the heap, and one of fixed room would be filled by a loop. No model: the law `few` would have to hold of every
-// list of records, so that the phases would be cut to sixteen once more.
+// count beside it: a list that grows would take its memory from the heap, and one of fixed room would be filled by a loop. No
+// model: the law `few` would have to hold of every list of records, so that the phases would be cut to sixteen once more.
 #[derive(Drop)]
 pub struct Sections<R> {
     pub(crate) records: [R; MOST_SECTIONS as usize],

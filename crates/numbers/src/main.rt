@@ -15,6 +15,7 @@ use turn::refusals::TurnRefusal;
 use turn::rows::{BLANK_ROW, RegisterRow};
 use turn::turns::Turn;
 
+// A short name for the calls below; each program has its own.
 const UP: Direction = Direction::Up;
 
 const GIVE: Call = Call::GiveRelease {

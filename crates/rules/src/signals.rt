@@ -103,6 +103,7 @@ impl SectionState {
         }
     }
 
+    // This and the next differ in the field that they change, and have one line in common.
     pub fn with_block(self, direction: Direction, block: BlockSignal) -> SectionState
         ensures { result ≡ with_block direction block self }
     {

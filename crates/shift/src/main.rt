@@ -19,6 +19,7 @@ use turn::turns::Turn;
 
 mod texts;
 
+// A short name for the calls below; each program has its own.
 const UP: Direction = Direction::Up;
 
 const DOWN: Direction = Direction::Down;

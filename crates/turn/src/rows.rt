@@ -45,7 +45,7 @@ pub const BLANK_ROW: RegisterRow = RegisterRow {
 };
 
 impl Kind {
-    // The number of the call, 1 to 14.
+    // The number of the call, 1 to 14: a row's first value, and what the definitions compare by.
     pub fn code(self) -> u8
         ensures { result ≡ kind_code self }
     {

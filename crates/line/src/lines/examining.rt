@@ -46,7 +46,8 @@ impl<I: BlockInstrument> Line<I> {
         refuse_if(post > self.instrument.count(), LineRefusal::PostUnknown)
     }
 
-    // This check and the next are opposites, each with its own refusal; so are the two of a home signal.
+    // This check and the next are opposites, as are the two of a home signal, and those of a closing and a returning: with a flag for
+    // which of the two is meant, a call of it could not be read.
     fn check_new(&self, train: u32) -> Result<(), LineRefusal>
         ensures { result ≡ told (train_present self.now train) }
     {

@@ -26,8 +26,8 @@ fn exit_post(section: u32, direction: Direction) -> u32
     }
 }
 
-// A section as the call leaves it. The call and its way, which is worked out once, go on as two: joined they would be taken apart
-// at once.
+// A section as the call leaves it. The call and its way, which is worked out once, go on as two, as a section and its direction do:
+// joined they would be taken apart at once.
 fn changed(state: SectionState, call: Call, way: Option<Direction>) -> SectionState
     ensures { result ≡ section_effect call way state }
 {
