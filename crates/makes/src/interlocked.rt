@@ -5,7 +5,7 @@ ghost use Rattle.makes.specs.Rows.{row};
 ghost use Rattle.makes.specs.Panes.{panes_answer};
 
 use crate::interlocked::record::PaneRecord;
-use crate::sections::{SectionRecord, Sections};
+use crate::sections::{Accepts, SectionRecord, Sections, work_record};
 use block::order::{Action, Direction, Phase};
 use block::refusals::{InstrumentRefusal, check_section};
 
@@ -69,6 +69,19 @@ impl SectionRecord for PaneRecord {
             _ => unreachable!(),
         }
     }
+
+    fn work(
+        &mut self,
+        action: Action,
+        section: u32,
+        direction: Direction,
+    ) -> Result<(), InstrumentRefusal> {
+        work_record(action, section, direction, self.phase(), self)
+    }
+}
+
+impl Accepts for PaneRecord {
+    ghost shows = { pictured };
 
     fn accept(&mut self, action: Action, direction: Direction) {
         *self = PaneRecord::from(action.brings(direction));

@@ -22,10 +22,6 @@ pub trait SectionRecord: Copy {
     fn phase(&self) -> Phase
         ensures shown { result ≡ shows self.now };
 
-    // Takes the record on by an action that has been accepted.
-    fn accept(&mut self, action: Action, direction: Direction)
-        ensures { shows self.new ≡ brings action direction };
-
     // One action at this section, whose number is only told in a refusal.
     fn work(
         &mut self,
@@ -34,12 +30,35 @@ pub trait SectionRecord: Copy {
         direction: Direction,
     ) -> Result<(), InstrumentRefusal>
         ensures answered { result ≡ answer_of (worked action section direction (shows self.old)) }
-        ensures followed { shows self.new ≡ phase_after action section direction (shows self.old) }
-    {
-        work(action, section, direction, self.phase())?;
-        self.accept(action, direction);
-        Ok(())
-    }
+        ensures followed { shows self.new ≡ phase_after action section direction (shows self.old) };
+}
+
+// How this crate's own makes take a record on by an action that has been accepted. Private to the crate, since it asks for no
+// order; a make of another crate writes `work`. It has a `shows` of its own: with `SectionRecord` above it, `work_record` would
+// lead back to the `work` that calls it, and the check proves no such circle.
+pub(crate) trait Accepts {
+    // the phase that the record stands for
+    ghost shows: { Self → Phase };
+
+    fn accept(&mut self, action: Action, direction: Direction)
+        ensures { shows self.new ≡ brings action direction };
+}
+
+// The work of these makes: an action is accepted or refused by the phase that is found, and only an accepted one is written.
+pub(crate) fn work_record<R: Accepts>(
+    action: Action,
+    section: u32,
+    direction: Direction,
+    found: Phase,
+    kept: &mut R,
+) -> Result<(), InstrumentRefusal>
+    requires { found ≡ R.shows kept.old }
+    ensures answered { result ≡ answer_of (worked action section direction (R.shows kept.old)) }
+    ensures followed { R.shows kept.new ≡ phase_after action section direction (R.shows kept.old) }
+{
+    work(action, section, direction, found)?;
+    kept.accept(action, direction);
+    Ok(())
 }
 
 // An instrument of at most sixteen sections, each kept as a record of its make. The records stand in an array with their

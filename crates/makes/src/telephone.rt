@@ -4,10 +4,11 @@ ghost use Rattle.makes.specs.Letters.{last_letter, marked};
 ghost use Rattle.block.specs.Order.{brings};
 ghost use Rattle.makes.specs.Telephone.{understood};
 
-use crate::sections::{SectionRecord, Sections};
+use crate::sections::{Accepts, SectionRecord, Sections, work_record};
 use crate::telephone::letters::Letter;
 use crate::telephone::record::LetterRecord;
 use block::order::{Action, Direction, Phase};
+use block::refusals::InstrumentRefusal;
 
 pub mod letters;
 pub mod record;
@@ -57,6 +58,19 @@ impl SectionRecord for LetterRecord {
             (Some(Letter::Request | Letter::Entry), _) => unreachable!(),
         }
     }
+
+    fn work(
+        &mut self,
+        action: Action,
+        section: u32,
+        direction: Direction,
+    ) -> Result<(), InstrumentRefusal> {
+        work_record(action, section, direction, self.phase(), self)
+    }
+}
+
+impl Accepts for LetterRecord {
+    ghost shows = { understood };
 
     fn accept(&mut self, action: Action, direction: Direction) {
         *self = LetterRecord::after(action, direction);

@@ -1,10 +1,33 @@
 // What is printed, as text.
-ghost use Rattle.std.specs.Prelude.{Some};
+ghost use Rattle.std.specs.Prelude.{◌≡◌, Some};
 ghost use Rattle.passage.specs.Names.{name_of_action, name_of_direction};
 
 use block::order::{Action, Direction, Phase};
 use block::refusals::InstrumentRefusal;
 use std::fmt;
+
+// The word that is printed for an action.
+pub fn action_name(action: Action) -> &'static str
+    ensures { result.now ≡ name_of_action action }
+{
+    match action {
+        Action::Give => "give",
+        Action::Open => "open",
+        Action::Return => "return",
+        Action::Clear => "clear",
+        Action::Restore => "restore",
+    }
+}
+
+// The word that is printed for a direction.
+pub fn direction_name(direction: Direction) -> &'static str
+    ensures { result.now ≡ name_of_direction direction }
+{
+    match direction {
+        Direction::Up => "up",
+        Direction::Down => "down",
+    }
+}
 
 #[derive(Clone, Copy)]
 pub struct ActionText(pub Action);
@@ -13,13 +36,7 @@ impl fmt::Display for ActionText {
     ghost output = { λ x. Some (name_of_action x.0) };
 
     fn fmt<W: fmt::Write>(&self, f: &mut fmt::Formatter<W>) -> fmt::Result {
-        f.write_str(match self.0 {
-            Action::Give => "give",
-            Action::Open => "open",
-            Action::Return => "return",
-            Action::Clear => "clear",
-            Action::Restore => "restore",
-        })
+        f.write_str(action_name(self.0))
     }
 }
 
@@ -30,10 +47,7 @@ impl fmt::Display for DirectionText {
     ghost output = { λ x. Some (name_of_direction x.0) };
 
     fn fmt<W: fmt::Write>(&self, f: &mut fmt::Formatter<W>) -> fmt::Result {
-        f.write_str(match self.0 {
-            Direction::Up => "up",
-            Direction::Down => "down",
-        })
+        f.write_str(direction_name(self.0))
     }
 }
 
