@@ -3,6 +3,7 @@ use crate::cases::{Case, compare, tell};
 use block::instruments::BlockInstrument;
 use block::order::{Action, Direction};
 use book::Book;
+use line::lines::Line;
 use makes::interlocked::Interlocked;
 use makes::piles::MixedPile;
 use makes::telephone::Telephone;
@@ -62,10 +63,18 @@ fn check_turn<I: BlockInstrument + Drop>(
     rows: &mut [RegisterRow],
     slips: &mut [SealRow],
 ) -> anyhow::Result<()> {
-    let mut turn = Turn::new(instrument, rows, slips);
+    let mut line = Line::new(instrument);
+    let mut register = Book::new(rows);
+    let mut seals = Book::new(slips);
     let mut answer = [0u8; 100];
     let mut answer = Book::new(&mut answer);
-    play_lines(&mut turn, case.sheet, &mut answer);
+    play_lines(
+        &mut line,
+        &mut register,
+        &mut seals,
+        case.sheet,
+        &mut answer,
+    );
     compare(rt, case, answer.filled())
 }
 

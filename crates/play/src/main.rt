@@ -10,7 +10,8 @@ fn play(rt: &HostRuntime) -> io::Result<()> {
     // One byte more than a sheet may have tells that it has too many, however long the input is.
     let mut input = rt.stdin().take(MOST_BYTES as u64 + 1);
     input.read_to_end(&mut sheet)?;
-    let mut answer = [0u8; MOST_ANSWER];
+    // On the heap: the sheet is there too, and the stack stays small.
+    let mut answer = vec![in rt.alloc(); 0u8; MOST_ANSWER]?;
     let written = print_sheet(&sheet, &mut answer);
     rt.stdout().write_all(&answer[..written])
 }

@@ -1,15 +1,16 @@
 -- How the turn of a sheet begins.
-use Rattle.std.proofs.Common.{◌≡◌, ℕ, zero, suc, ◌+◌, ◌-◌, ◌≤◌, min, true, cond, List, ◌++◌, length, take, replicate, refl, ap, ◌∙◌, arith, take_all, ne_eqb}
+use Rattle.std.proofs.Common.{◌≡◌, ℕ, zero, suc, ◌+◌, ◌-◌, ◌≤◌, min, true, cond, List, [], ◌++◌, length, take, replicate, refl, ap, ◌∙◌, arith, length-take, take_all, ne_eqb}
 use lib.ListN.{length-replicate, replicate-append-replicate}
 use Rattle.block.specs.declared.order.Phase.{Phase}
 use Rattle.block.specs.declared.order.Phase.TheVariants.{Rest}
+use Rattle.book.specs.declared.Book as lent
 use Rattle.line.specs.Lines.{at_rest, condition_of, made}
 use Rattle.reading.specs.Headings.{GoodHeading}
 use Rattle.reading.specs.declared.headings.Heading.{Heading}
 use Rattle.rules.specs.State.{LineState, new_line}
 use Rattle.rules.specs.declared.signals.Condition.{Condition}
 use Rattle.rules.specs.declared.signals.Condition.TheVariants.{Sound, Sectionless, Unsettled}
-use Rattle.turn.specs.Turns.{New}
+use Rattle.turn.specs.Turns.{New, book_of}
 use Rattle.sheet.specs.Sheets.{first_turn}
 
 all_at_rest : (n : ℕ) → at_rest (replicate n Rest) ≡ true
@@ -37,3 +38,9 @@ pile_rest ps qs m n p q within few =
 
 pub begins_new : (h : Heading) → GoodHeading h → New (first_turn h)
 begins_new h g = record { sections = h.sections; some = g.some; few = g.few; is = refl }
+
+pub empty_book : {Row : Type 0} (b : lent.Book Row) (rows : List Row) (n : ℕ) → b.len ≡ 0 → b.rows.now ≡ rows → length rows ≡ n → book_of b ≡ record { rows = []; room = n }
+empty_book b rows n none is long = λ i. record { rows = (ap (λ k. take k b.rows.now) none) i; room = (ap length is ∙ long) i }
+
+pub few_rows : {Row : Type 0} (b : lent.Book Row) (n : ℕ) → (book_of b).room ≡ n → length (book_of b).rows ≤ n
+few_rows b n e = omega (arith, length-take b.len b.rows.now, e)

@@ -1,5 +1,5 @@
 -- How long an answer can be.
-use Rattle.std.proofs.Common.{◌≡◌, ℕ, suc, ◌+◌, ◌*◌, ◌<◌, ◌≤◌, Bool, true, false, cond, List, [], ◌∷◌, ◌++◌, length, Some, None, Ok, Err, Option, Result, refl, ap, arith, length-append}
+use Rattle.std.proofs.Common.{◌≡◌, ℕ, suc, ◌+◌, ◌*◌, ◌<◌, ◌≤◌, Bool, true, false, cond, List, [], ◌∷◌, ◌++◌, length, Some, None, Ok, Err, Option, Result, refl, ap, ◌∙◌, arith, length-append}
 use Rattle.answers.proofs.Bounds.{heading_short}
 use Rattle.answers.proofs.Refused.{Brief, nothing_brief, refused_brief, place_brief, ok_short, refused_short}
 use Rattle.answers.specs.Numbers.{turn_values}
@@ -15,11 +15,11 @@ use Rattle.rules.specs.declared.calls.Call.{Call}
 use Rattle.rules.specs.declared.refusals.LineRefusal.{LineRefusal}
 use Rattle.std.specs.Option.{option_map}
 use Rattle.answers.specs.declared.refusals.SheetLineRefusal.TheVariants.{Unreadable, Turn}
-use Rattle.turn.specs.Rows.{row_of, unsealing}
+use Rattle.turn.specs.Rows.{unsealing}
 use Rattle.turn.specs.Turn.{TurnState, full, no_seal_row, turn_refusal, answer_of, step, run, unless, worked}
 use Rattle.turn.specs.declared.refusals.TurnRefusal.{TurnRefusal}
 use Rattle.turn.specs.declared.refusals.TurnRefusal.TheVariants.{RegisterFull, SealBookFull, Line}
-use Rattle.sheet.specs.Played.{before, readable, from_turn, told, after, numbered, line_answers}
+use Rattle.sheet.specs.Played.{readable, from_turn, told, after, numbered, line_answers}
 use Rattle.sheet.specs.Sheets.{first_turn, end_text, played_text, least_room}
 
 -- ONE LINE
@@ -62,26 +62,18 @@ answers_short n t (l ∷ ls) few =
 
 -- THE WHOLE ANSWER
 
--- a call enters one row at the most
-step_rows : (t : TurnState) (c : Call) → length (step t c).register.rows ≤ length t.register.rows + 1
+-- the books keep their room
+step_room : (t : TurnState) (c : Call) → (step t c).register.room ≡ t.register.room
 unfolding step
-step_rows t c = by (turn_refusal t c)
+step_room t c = by (turn_refusal t c)
   where
-    by : (o : Option TurnRefusal) → length (unless o t (worked t c)).register.rows ≤ length t.register.rows + 1
-    by None = omega (arith, length-append t.register.rows (row_of t.line c ∷ []))
-    by (Some e) = omega arith
+    by : (o : Option TurnRefusal) → (unless o t (worked t c)).register.room ≡ t.register.room
+    by None = refl
+    by (Some e) = refl
 
-pub run_rows : (t : TurnState) (cs : List Call) → length (run t cs).register.rows ≤ length t.register.rows + length cs
-run_rows t [] = omega arith
-run_rows t (c ∷ cs) = omega (arith, run_rows (step t c) cs, step_rows t c)
-
-pub few_calls : (ls : List (List ℕ)) → length (readable ls) ≤ length ls
-few_calls [] = omega arith
-few_calls (l ∷ ls) = omega (arith, by (reading l) (few_calls ls))
-  where
-    by : (r : Result Call ℕ) → length (readable ls) ≤ length ls → length (before r (readable ls)) ≤ length ls + 1
-    by (Ok c) h = omega arith
-    by (Err place) h = omega arith
+pub run_room : (t : TurnState) (cs : List Call) → (run t cs).register.room ≡ t.register.room
+run_room t [] = refl
+run_room t (c ∷ cs) = run_room (step t c) cs ∙ step_room t c
 
 pub played_short : (h : Heading) → GoodHeading h → (ls : List (List ℕ)) → length ls < 9000 → length (end_text (run (first_turn h) (readable ls))) ≤ 528
     → length (played_text h ls) ≤ least_room (length ls)

@@ -13,13 +13,13 @@ use answers::sections::put_sections;
 use answers::texts::put_heading;
 use block::instruments::BlockInstrument;
 use book::Book;
+use line::lines::Line;
 use makes::interlocked::Interlocked;
 use makes::piles::MixedPile;
 use makes::telephone::Telephone;
 use reading::headings::Heading;
 use rules::slips::BLANK_SEAL;
 use turn::rows::BLANK_ROW;
-use turn::turns::Turn;
 
 // Plays the lines after a heading over an instrument at rest, with a register of 1,000 rows and a seal book of 50, and writes
 // the whole answer.
@@ -37,12 +37,14 @@ where
     ensures short { length (lines sheet.now) < 9000 → length (played_text heading (lines sheet.now)) ≤ least_room (length (lines sheet.now)) }
     ensures lawful { TurnLaw (first_turn heading) (readable (lines sheet.now)) }
 {
+    let mut line = Line::new(instrument);
     let mut rows = [BLANK_ROW; 1_000];
+    let mut register = Book::new(&mut rows);
     let mut slips = [BLANK_SEAL; 50];
-    let mut turn = Turn::new(instrument, &mut rows, &mut slips);
+    let mut seals = Book::new(&mut slips);
     put_heading(answer, heading);
-    play_lines(&mut turn, sheet, answer);
-    put_sections(answer, &turn);
+    play_lines(&mut line, &mut register, &mut seals, sheet, answer);
+    put_sections(answer, &line, &register);
 }
 
 // The same over a mixed pile: the first sections interlocked, as many as the heading says, and the others by telephone.

@@ -13,7 +13,7 @@ use Rattle.rules.specs.declared.slips.SealRow.{SealRow}
 use Rattle.rules.specs.declared.slips.Slip.{Slip}
 use Rattle.turn.specs.Rows.{row_of, unsealing, seals_of}
 use Rattle.turn.specs.Turn.{Book, full, added, TurnState, no_seal_row, turn_refusal, worked}
-use Rattle.turn.specs.Turns.{admission, noted, slip_rows}
+use Rattle.turn.specs.Turns.{admission, slip_rows}
 use Rattle.turn.specs.declared.refusals.TurnRefusal.{TurnRefusal}
 use Rattle.turn.specs.declared.refusals.TurnRefusal.TheVariants.{RegisterFull, SealBookFull, Line}
 use Rattle.turn.specs.declared.rows.RegisterRow.{RegisterRow}
@@ -88,11 +88,11 @@ slip_row (ClearSection k d) m = refl
 slip_row (UnsealSection k d) m = refl
 slip_row (RestoreSection k d) m = refl
 
--- the turn once the row and the slip of an accepted call have been entered
-pub noted_worked : (t v : TurnState) (c : Call) (l : LineState) (row : RegisterRow) (slip : Option Slip) → v ≡ t → l ≡ effect t.line c → row ≡ row_of t.line c → slip ≡ slip_of c → noted row slip (record { line = l; register = v.register; seals = v.seals }) ≡ worked t c
-noted_worked t v c l row slip same moved told handed =
-    ap (λ (x : TurnState). noted row slip (record { line = l; register = x.register; seals = x.seals })) same
-    ∙ ap (λ m. noted row slip (record { line = m; register = t.register; seals = t.seals })) moved
-    ∙ ap (λ r. noted r slip (record { line = effect t.line c; register = t.register; seals = t.seals })) told
-    ∙ ap (λ o. noted (row_of t.line c) o (record { line = effect t.line c; register = t.register; seals = t.seals })) handed
-    ∙ ap (λ rows. record { line = effect t.line c; register = added (row_of t.line c ∷ []) t.register; seals = added rows t.seals }) (slip_row c (length t.register.rows))
+-- a turn whose line is that after an accepted call, and whose books have its row and its slip
+pub noted_worked : (t : TurnState) (c : Call) (l : LineState) (register : Book RegisterRow) (seals : Book SealRow) (row : RegisterRow) (slip : Option Slip)
+    → l ≡ effect t.line c → row ≡ row_of t.line c → slip ≡ slip_of c → register ≡ added (row ∷ []) t.register
+    → seals ≡ added (slip_rows slip (length t.register.rows)) t.seals → record { line = l; register = register; seals = seals } ≡ worked t c
+noted_worked t c l register seals row slip moved told handed rows slips =
+    let r = rows ∙ ap (λ x. added (x ∷ []) t.register) told in
+    let s = slips ∙ ap (λ xs. added xs t.seals) (ap (λ o. slip_rows o (length t.register.rows)) handed ∙ slip_row c (length t.register.rows)) in
+    λ i. record { line = moved i; register = r i; seals = s i }

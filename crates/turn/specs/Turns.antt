@@ -5,6 +5,7 @@ use Rattle.book.specs.declared.Book as lent
 use Rattle.block.specs.declared.order.Phase.{Phase}
 use Rattle.line.specs.Lines.{made}
 use Rattle.rules.specs.Slips.{seal_row_of}
+use Rattle.rules.specs.State.{LineState}
 use Rattle.rules.specs.declared.calls.Call.{Call}
 use Rattle.rules.specs.declared.slips.SealRow.{SealRow}
 use Rattle.rules.specs.declared.slips.Slip.{Slip}
@@ -17,6 +18,10 @@ use Rattle.turn.specs.declared.rows.RegisterRow.{RegisterRow}
 -- a book's rows and room
 abbrev pub book_of : {Row : Type 0} → lent.Book Row → Book Row
 book_of b = record { rows = entered b.len b.rows.now; room = length b.rows.now }
+
+-- a turn, of a line and two books
+abbrev pub turn_of : LineState → lent.Book RegisterRow → lent.Book SealRow → TurnState
+turn_of line register seals = record { line = line; register = book_of register; seals = book_of seals }
 
 -- a turn that begins, over an instrument of these phases and slices of so many places
 abbrev pub begun : List Phase → ℕ → ℕ → TurnState

@@ -1,7 +1,7 @@
-// A turn: one line and two books.
-ghost use Rattle.std.specs.Prelude.{◌≡◌, true, false, length, is_some};
-ghost use Rattle.turn.specs.Turn.{full, answer_of, turn_answer, step};
-ghost use Rattle.turn.specs.Turns.{book_of, begun, admission, noted};
+// One call of a turn: the books' room, the line, and then the rows. A turn's line and books are lent, each by itself, or are one value.
+ghost use Rattle.std.specs.Prelude.{◌≡◌, true, false, [], ◌∷◌, length, is_some};
+ghost use Rattle.turn.specs.Turn.{full, added, answer_of, turn_answer, step};
+ghost use Rattle.turn.specs.Turns.{book_of, turn_of, begun, admission, slip_rows};
 
 use crate::refusals::TurnRefusal;
 use crate::rows::RegisterRow;
@@ -12,12 +12,69 @@ use rules::calls::Call;
 use rules::slips::{SealRow, Slip};
 use std::marker::Model;
 
+// Whether the books have room: the register for every call, the seal book for an unsealing.
+fn admit(
+    register: &Book<'_, RegisterRow>,
+    seals: &Book<'_, SealRow>,
+    call: Call,
+) -> Result<(), TurnRefusal>
+    ensures { result ≡ answer_of (admission (book_of register.now) (book_of seals.now) call) }
+{
+    if register.is_full() {
+        return Err(TurnRefusal::RegisterFull);
+    }
+    match call {
+        Call::UnsealSection { .. } if seals.is_full() => Err(TurnRefusal::SealBookFull),
+        _ => Ok(()),
+    }
+}
+
+// Enters the row of an accepted call, and its slip.
+fn note(
+    register: &mut Book<'_, RegisterRow>,
+    seals: &mut Book<'_, SealRow>,
+    row: RegisterRow,
+    slip: Option<Slip>,
+)
+    requires room { full (book_of register.old) ≡ false }
+    requires seal_room { is_some slip ≡ true → full (book_of seals.old) ≡ false }
+    ensures rows { book_of register.new ≡ added (row ∷ []) (book_of register.old) }
+    ensures seals { book_of seals.new ≡ added (slip_rows slip (length (book_of register.old).rows)) (book_of seals.old) }
+{
+    let place = register.len();
+    let _ = register.add(row);
+    if let Some(slip) = slip {
+        match slip.enter(place, seals) {
+            Ok(()) => {}
+            Err(_owed) => unreachable!(),
+        }
+    }
+}
+
+// Works one call of the turn that a line and two books are. A refused call changes nothing; an unsealing enters its slip before the
+// call ends.
+pub fn work<I: BlockInstrument>(
+    line: &mut Line<I>,
+    register: &mut Book<'_, RegisterRow>,
+    seals: &mut Book<'_, SealRow>,
+    call: Call,
+) -> Result<(), TurnRefusal>
+    ensures answered { result ≡ turn_answer (turn_of line.old register.old seals.old) call }
+    ensures followed { turn_of line.new register.new seals.new ≡ step (turn_of line.old register.old seals.old) call }
+{
+    admit(register, seals, call)?;
+    let row = RegisterRow::of(line, call);
+    let slip = line.call(call)?;
+    note(register, seals, row, slip);
+    Ok(())
+}
+
 // The register has a row for each accepted call, the seal book one for each unsealing.
 #[derive(Drop)]
 pub struct Turn<'a, I: BlockInstrument> {
-    line: Line<I>,
-    register: Book<'a, RegisterRow>,
-    seals: Book<'a, SealRow>,
+    pub(super) line: Line<I>,
+    pub(super) register: Book<'a, RegisterRow>,
+    pub(super) seals: Book<'a, SealRow>,
 }
 
 impl<'a, I: BlockInstrument> Model for Turn<'a, I> {
@@ -70,44 +127,18 @@ impl<'a, I: BlockInstrument> Turn<'a, I> {
         &self.seals
     }
 
-    // Whether the books have room: the register for every call, the seal book for an unsealing.
-    fn admit(&self, call: Call) -> Result<(), TurnRefusal>
-        ensures { result ≡ answer_of (admission self.now.register self.now.seals call) }
+    // The line and the two books, as they stand, for whoever wants them back.
+    pub fn into_parts(self) -> (Line<I>, Book<'a, RegisterRow>, Book<'a, SealRow>)
+        ensures { turn_of result.0 result.1 result.2 ≡ self.entry }
     {
-        if self.register.is_full() {
-            return Err(TurnRefusal::RegisterFull);
-        }
-        match call {
-            Call::UnsealSection { .. } if self.seals.is_full() => Err(TurnRefusal::SealBookFull),
-            _ => Ok(()),
-        }
+        (self.line, self.register, self.seals)
     }
 
-    // Enters the row of an accepted call, and its slip.
-    fn note(&mut self, row: RegisterRow, slip: Option<Slip>)
-        requires room { full self.old.register ≡ false }
-        requires seal_room { is_some slip ≡ true → full self.old.seals ≡ false }
-        ensures { self.new ≡ noted row slip self.old }
-    {
-        let place = self.register.len();
-        let _ = self.register.add(row);
-        if let Some(slip) = slip {
-            match slip.enter(place, &mut self.seals) {
-                Ok(()) => {}
-                Err(_owed) => unreachable!(),
-            }
-        }
-    }
-
-    // Works one call of a turn. A refused call changes nothing; an unsealing enters its slip before the call ends.
+    // Works one call of the turn, as `work` does.
     pub fn work(&mut self, call: Call) -> Result<(), TurnRefusal>
         ensures answered { result ≡ turn_answer self.old call }
         ensures followed { self.new ≡ step self.old call }
     {
-        self.admit(call)?;
-        let row = RegisterRow::of(&self.line, call);
-        let slip = self.line.call(call)?;
-        self.note(row, slip);
-        Ok(())
+        work(&mut self.line, &mut self.register, &mut self.seals, call)
     }
 }

@@ -1,13 +1,14 @@
 use Rattle.std.proofs.Common.{length, ap, arith, length-append}
 use Rattle.answers.proofs.TextParts.{next_section}
 use Rattle.answers.specs.Texts.{section_text, section_texts}
+use Rattle.turn.specs.Turns.{book_of}
 use Rattle.writing.specs.Facts.{writes_then, writes_as}
 use Rattle.answers.proofs.sections.put_sections.Goals as goal
 
 pub loop-section-preserved : goal.loop-section-preserved
 loop-section-preserved g c =
-    let s = c.args.turn.now.line in
-    let rows = c.args.turn.now.register.rows in
+    let s = c.args.line.now in
+    let rows = (book_of c.args.register.now).rows in
     let k = c.loop-section.section in
     let here = c.loop-section-test.true in
     record {

@@ -3,6 +3,7 @@ use Rattle.reading.proofs.Cutting.{few_lines}
 use Rattle.reading.specs.Lines.{lines}
 use Rattle.turn.proofs.Playing.{lawful}
 use Rattle.turn.specs.Turn.{run}
+use Rattle.turn.specs.Turns.{turn_of}
 use Rattle.writing.specs.Pens.{pen_of, wrote}
 use Rattle.sheet.specs.Played.{readable, line_answers}
 use Rattle.sheet.proofs.Playing.{run_on, answers_on, wrote_all}
@@ -10,8 +11,8 @@ use Rattle.sheet.proofs.plays.play_lines.Goals as goal
 
 pub loop-text-preserved : goal.loop-text-preserved
 loop-text-preserved g c =
-    let t = c.loop-text.turn in
-    let u = c.play_line-told.new.turn in
+    let t = turn_of c.loop-text.line c.loop-text.register c.loop-text.seals in
+    let u = turn_of c.play_line-told.new.line c.play_line-told.new.register c.play_line-told.new.seals in
     let ls = lines c.loop-text.text-iterator.a.rest.now in
     let ms = lines c.next.new.self.a.rest.now in
     let l = c.in-Some.text.now in
@@ -34,8 +35,8 @@ loop-text-preserved g c =
 
 pub returns : goal.returns
 returns g c =
-    let t = c.args.turn.now in
-    let here = c.loop-text.turn in
+    let t = turn_of c.args.line.now c.args.register.now c.args.seals.now in
+    let here = turn_of c.loop-text.line c.loop-text.register c.loop-text.seals in
     let ls = lines c.loop-text.text-iterator.a.rest.now in
     let i = c.loop-text.invariant in
     let none : ls ≡ [] = ⊎_elim (λ a. a.1.0) (λ b. absurd (omega (arith, i.counted, few_lines c.args.sheet.now, b.1.0))) c.in-None.ensures.steps in
