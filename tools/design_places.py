@@ -41,7 +41,7 @@ PATTERNS = [
     (4, "an error turned by a match", r"Err\((\w+)\) => Err\([^)]"),
     (4, "a text for a case", r"fn \w+_name\("),
     (5, "a line's state read off its fields", r"state I\.phases"),
-    (5, "a turn read off three parameters", r"turn_of I\.phases"),
+    (5, "a turn read off three parameters", r"turn_of (?:I\.phases )?line\."),
     (5, "a line, a register and a seal book as parameters", r"register: &(?:mut )?Book<'_, RegisterRow>,\s*seals: &(?:mut )?Book<'_, SealRow>"),
     (5, "the records of a table named in a clause", r"\{ [^}\n]*self\.(?:now|old|new)\.records"),
     (5, "what a reader keeps, or where it stands", r"ensures (?:kept|stands) "),
