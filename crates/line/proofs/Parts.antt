@@ -12,10 +12,12 @@ use Rattle.rules.specs.Checks.{told, first_refusal, unfit, own_checks, asked, re
 use Rattle.rules.specs.Effects.{phases_effect, section_effect, sections_effect, trains_effect, effect}
 use Rattle.line.specs.Lines.{line_after, unless}
 use Rattle.rules.specs.State.{LineState}
-use Rattle.line.specs.Working.{ask_after, with_sections, with_trains}
+use Rattle.line.specs.Working.{ask_after}
 use Rattle.rules.specs.declared.calls.Call.{Call}
 use Rattle.rules.specs.declared.refusals.LineRefusal.{LineRefusal}
 use Rattle.rules.specs.declared.refusals.LineRefusal.TheVariants.{Instrument}
+use Rattle.rules.specs.declared.signals.SectionState.{SectionState}
+use Rattle.trains.specs.declared.places.TrainRecord.{TrainRecord}
 
 clash : {X : Type 0} → ◌≡◌ {A = ℕ} 0 1 → X
 clash e = absurd (omega arith)
@@ -75,10 +77,14 @@ pub told_err : {E : Type 0} (o : Option E) (e : E) → told o ≡ Err e → o �
 told_err None e h = clash (cc)
 told_err (Some r) e h = let same : r ≡ e = cc in ap Some same
 
--- the parts of an accepted call's effect, one after the other
-pub worked_in_parts : (s : LineState) (c : Call) (way : Option Direction) (a b d : LineState) → way ≡ direction_of s c → a ≡ ask_after c way s → b ≡ with_sections (sections_effect (section_of c) (section_effect c way) a.sections) a → d ≡ with_trains (trains_effect c way b.trains) b → d ≡ effect s c
+-- the same line with other sections and other trains
+abbrev with_both : List SectionState → List TrainRecord → LineState → LineState
+with_both xs ts s = record { condition = s.condition; phases = s.phases; sections = xs; trains = ts }
+
+-- the parts of an accepted call's effect: what the instrument does, and then what is done to the sections and to the trains
+pub worked_in_parts : (s : LineState) (c : Call) (way : Option Direction) (a : LineState) (xs : List SectionState) (ts : List TrainRecord) → way ≡ direction_of s c → a ≡ ask_after c way s → xs ≡ sections_effect (section_of c) (section_effect c way) a.sections → ts ≡ trains_effect c way a.trains → record { condition = a.condition; phases = a.phases; sections = xs; trains = ts } ≡ effect s c
 unfolding effect
-worked_in_parts s c way a b d direction asked first then =
-    then ∙ ap (λ (x : LineState). with_trains (trains_effect c way x.trains) x) first
-    ∙ ap (λ (x : LineState). with_trains (trains_effect c way x.trains) (with_sections (sections_effect (section_of c) (section_effect c way) x.sections) x)) asked
-    ∙ ap (λ o. with_trains (trains_effect c o s.trains) (with_sections (sections_effect (section_of c) (section_effect c o) s.sections) (ask_after c o s))) direction
+worked_in_parts s c way a xs ts direction asked section trains =
+    ap (λ ys. with_both ys ts a) section ∙ ap (λ us. with_both (sections_effect (section_of c) (section_effect c way) a.sections) us a) trains
+    ∙ ap (λ (x : LineState). with_both (sections_effect (section_of c) (section_effect c way) x.sections) (trains_effect c way x.trains) x) asked
+    ∙ ap (λ o. with_both (sections_effect (section_of c) (section_effect c o) s.sections) (trains_effect c o s.trains) (ask_after c o s)) direction

@@ -7,8 +7,6 @@ use Rattle.rules.specs.Checks.{told, first_refusal, own_checks, asked}
 use Rattle.rules.specs.Effects.{phases_effect}
 use Rattle.rules.specs.State.{LineState}
 use Rattle.rules.specs.declared.calls.Call.{Call}
-use Rattle.rules.specs.declared.signals.SectionState.{SectionState}
-use Rattle.trains.specs.declared.places.TrainRecord.{TrainRecord}
 use Rattle.rules.specs.declared.refusals.LineRefusal.{LineRefusal}
 use Rattle.rules.specs.declared.refusals.LineRefusal.TheVariants.{TrainElsewhere}
 
@@ -25,13 +23,6 @@ way_told None (Some d) = Ok d
 -- the same line with other phases
 abbrev pub with_phases : List Phase → LineState → LineState
 with_phases ps s = record { condition = s.condition; phases = ps; sections = s.sections; trains = s.trains }
-
--- the same line with other sections, and with other trains
-abbrev pub with_sections : List SectionState → LineState → LineState
-with_sections xs s = record { condition = s.condition; phases = s.phases; sections = xs; trains = s.trains }
-
-abbrev pub with_trains : List TrainRecord → LineState → LineState
-with_trains ts s = record { condition = s.condition; phases = s.phases; sections = s.sections; trains = ts }
 
 -- what the instrument answers to what a call asks of it, going this way, and the line then
 abbrev pub ask_answer : Call → Option Direction → LineState → Result (Unit {0}) LineRefusal

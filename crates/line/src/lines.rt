@@ -10,7 +10,8 @@ mod making;
 mod reading;
 mod working;
 
-// What a contract sees of a line is its state, in which the instrument stands by its sections' phases.
+// What a contract sees of a line is its state, in which the instrument stands by its sections' phases. What may be asked of a line
+// comes with the lengths of its sections and of its trains, since whoever is lent one learns of its invariant by that alone.
 #[derive(Drop)]
 pub struct Line<I: BlockInstrument> {
     instrument: I,
@@ -27,5 +28,5 @@ impl<I: BlockInstrument> Model for Line<I> {
 
     ghost view = { λ l. record { condition = l.condition; phases = I.BlockInstrument.phases l.instrument; sections = l.sections; trains = l.trains } };
 
-    ghost invariant = { λ l. length l.sections ≡ 16 };
+    ghost invariant = { λ l. (length l.sections ≡ 16) × (length l.trains ≡ 64) };
 }

@@ -1,5 +1,5 @@
 // The table of train records.
-ghost use Rattle.std.specs.Prelude.{◌≡◌, position, replicate};
+ghost use Rattle.std.specs.Prelude.{◌≡◌, length, position, replicate};
 ghost use Rattle.trains.specs.Trains.{free, taken, is_free, bears, place_of, any, put_first, occupied, pedal_pressed, number_inside};
 
 use crate::places::{Place, TrainRecord};
@@ -8,7 +8,8 @@ use std::marker::Model;
 
 const MOST_TRAINS: usize = 64;
 
-// What a contract sees of the table is its records, in their order.
+// What a contract sees of the table is its records, in their order. Each method says that there are 64, since whoever is lent a table
+// learns of its invariant by what the methods say alone.
 #[derive(Clone, Copy)]
 pub struct TrainTable {
     records: [TrainRecord; MOST_TRAINS],
@@ -38,7 +39,8 @@ impl TrainTable {
 
     // Where the train is; nowhere if no record holds it.
     pub fn place_of(&self, number: u32) -> Option<Place>
-        ensures { result ≡ place_of number self.now }
+        ensures value { result ≡ place_of number self.now }
+        ensures sized { length self.now ≡ 64 }
     {
         self.records
             .iter()
@@ -48,7 +50,8 @@ impl TrainTable {
 
     // The number of a train inside the section.
     pub fn train_inside(&self, section: u32) -> Option<u32>
-        ensures { result ≡ number_inside section self.now }
+        ensures value { result ≡ number_inside section self.now }
+        ensures sized { length self.now ≡ 64 }
     {
         self.records
             .iter()
@@ -57,19 +60,22 @@ impl TrainTable {
     }
 
     pub fn has_room(&self) -> bool
-        ensures { result ≡ any is_free self.now }
+        ensures value { result ≡ any is_free self.now }
+        ensures sized { length self.now ≡ 64 }
     {
         self.records.iter().any(TrainRecord::is_free)
     }
 
     pub fn is_occupied(&self, section: u32) -> bool
-        ensures { result ≡ occupied section self.now }
+        ensures value { result ≡ occupied section self.now }
+        ensures sized { length self.now ≡ 64 }
     {
         self.records.iter().any(|held| held.is_inside(section))
     }
 
     pub fn is_pressed(&self, section: u32, direction: Direction) -> bool
-        ensures { result ≡ pedal_pressed section direction self.now }
+        ensures value { result ≡ pedal_pressed section direction self.now }
+        ensures sized { length self.now ≡ 64 }
     {
         self.records
             .iter()
@@ -95,7 +101,8 @@ impl TrainTable {
     // A free record takes the train; a full table stays as it is.
     #[tactic(auto, using(crate::proofs::Searches::puts))]
     pub fn add(&mut self, number: u32, place: Place)
-        ensures { self.new ≡ put_first is_free (taken number place) self.old }
+        ensures value { self.new ≡ put_first is_free (taken number place) self.old }
+        ensures sized { length self.new ≡ 64 }
     {
         if let Some(free) = self.free_record() {
             self.records[free].hold(number, place);
@@ -105,7 +112,8 @@ impl TrainTable {
     // The train goes to another place; where there is no such train, nothing changes.
     #[tactic(auto, using(crate::proofs::Searches::puts))]
     pub fn move_to(&mut self, number: u32, place: Place)
-        ensures { self.new ≡ put_first (bears number) (taken number place) self.old }
+        ensures value { self.new ≡ put_first (bears number) (taken number place) self.old }
+        ensures sized { length self.new ≡ 64 }
     {
         if let Some(i) = self.record_of(number) {
             self.records[i].hold(number, place);
@@ -115,7 +123,8 @@ impl TrainTable {
     // The train's record is free again; where there is no such train, nothing changes.
     #[tactic(auto, using(crate::proofs::Searches::puts))]
     pub fn remove(&mut self, number: u32)
-        ensures { self.new ≡ put_first (bears number) free self.old }
+        ensures value { self.new ≡ put_first (bears number) free self.old }
+        ensures sized { length self.new ≡ 64 }
     {
         if let Some(i) = self.record_of(number) {
             self.records[i].clear();

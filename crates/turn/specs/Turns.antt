@@ -10,7 +10,7 @@ use Rattle.rules.specs.declared.calls.Call.{Call}
 use Rattle.rules.specs.declared.slips.SealRow.{SealRow}
 use Rattle.rules.specs.declared.slips.Slip.{Slip}
 use Rattle.turn.specs.Rows.{unsealing}
-use Rattle.turn.specs.Turn.{Book, full, added, TurnState, new_turn, no_seal_row}
+use Rattle.turn.specs.Turn.{Book, full, TurnState, new_turn, no_seal_row}
 use Rattle.turn.specs.declared.refusals.TurnRefusal.{TurnRefusal}
 use Rattle.turn.specs.declared.refusals.TurnRefusal.TheVariants.{RegisterFull, SealBookFull}
 use Rattle.turn.specs.declared.rows.RegisterRow.{RegisterRow}
@@ -39,14 +39,6 @@ admission register seals c = cond (full register) (Some RegisterFull) (cond (no_
 abbrev pub slip_rows : Option Slip → ℕ → List SealRow
 slip_rows None place = []
 slip_rows (Some s) place = seal_row_of s place ∷ []
-
--- a turn once the row of an accepted call has been entered, and its slip
-abbrev pub noted : RegisterRow → Option Slip → TurnState → TurnState
-noted row slip t = record {
-  line = t.line;
-  register = added (row ∷ []) t.register;
-  seals = added (slip_rows slip (length t.register.rows)) t.seals;
-}
 
 -- a turn that begins new
 pub record New (t : TurnState) : Type 0 where

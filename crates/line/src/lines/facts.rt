@@ -1,5 +1,5 @@
 // What the line knows of a call besides what it names.
-ghost use Rattle.std.specs.Prelude.{◌≡◌};
+ghost use Rattle.std.specs.Prelude.{◌≡◌, length};
 ghost use Rattle.rules.specs.Calls.{direction_of, post_of};
 ghost use Rattle.trains.specs.Trains.{place_of, stands_at};
 
@@ -11,7 +11,9 @@ use rules::calls::Call;
 impl<I: BlockInstrument> Line<I> {
     // The post at which a train stands.
     pub fn post_of(&self, train: u32) -> Option<u32>
-        ensures { result ≡ stands_at (place_of train self.now.trains) }
+        ensures value { result ≡ stands_at (place_of train self.now.trains) }
+        ensures sized { length self.now.sections ≡ 16 }
+        ensures trains_sized { length self.now.trains ≡ 64 }
     {
         self.trains.place_of(train)?.post()
     }

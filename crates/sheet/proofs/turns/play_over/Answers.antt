@@ -1,4 +1,4 @@
-use Rattle.std.proofs.Common.{[], ◌≡◌, ◌≤◌, ◌++◌, length, refl, ap, ◌∙◌, arith}
+use Rattle.std.proofs.Common.{◌≡◌, ◌++◌, length, refl, ap, ◌∙◌, arith}
 use Rattle.answers.specs.Texts.{heading_text}
 use Rattle.reading.specs.Lines.{lines}
 use Rattle.turn.proofs.Playing.{lawful}

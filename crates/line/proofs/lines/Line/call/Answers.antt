@@ -58,6 +58,6 @@ returns g c =
     record {
       answered = slip_told ∙ sym (ap (λ o. answered o (slip_of call)) accepted);
       followed =
-          worked_in_parts s call c.direction_of-way.result _ _ _ c.direction_of-way.ensures c.ask.ensures.followed c.apply_to_section.ensures c.apply_to_trains.ensures
+          worked_in_parts s call c.direction_of-way.result _ _ _ c.direction_of-way.ensures (c.self-2.view_is ∙ c.ask.ensures.followed) c.apply_to_section.ensures c.apply_to_trains.ensures.value
           ∙ sym (after_accepted s call accepted);
     }
