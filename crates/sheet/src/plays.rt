@@ -1,4 +1,4 @@
-// The lines of a sheet, one after the other.
+// The lines of a sheet, one after the other. A line and two books are lent, as for each call of a turn.
 ghost use Rattle.std.specs.Prelude.{◌≡◌};
 ghost use Rattle.reading.specs.Grammar.{reading};
 ghost use Rattle.reading.specs.Lines.{lines};

@@ -1,4 +1,5 @@
-// One call of a turn: the books' room, the line, and then the rows. A turn's line and books are lent, each by itself, or are one value.
+// One call of a turn: the books' room, the line, and then the rows. The line and the books are three that are lent, so that nobody has
+// to own them to have a call worked; `Turn` is for whoever wants them as one value.
 ghost use Rattle.std.specs.Prelude.{◌≡◌, true, false, [], ◌∷◌, length, is_some};
 ghost use Rattle.turn.specs.Turn.{full, added, answer_of, turn_answer, step};
 ghost use Rattle.turn.specs.Turns.{book_of, turn_of, begun, admission, slip_rows};
