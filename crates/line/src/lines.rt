@@ -10,8 +10,8 @@ mod making;
 mod reading;
 mod working;
 
-// What a contract sees of a line is its state, in which the instrument stands by its sections' phases. What may be asked of a line
-// comes with the lengths of its sections and of its trains, since whoever is lent one learns of its invariant by that alone.
+// What a contract sees of a line is its state, in which the instrument stands by its sections' phases. What is read of a line says how
+// many sections and train records it has, since whoever is lent one learns of its invariant by that alone.
 #[derive(Drop)]
 pub struct Line<I: BlockInstrument> {
     instrument: I,

@@ -8,8 +8,8 @@ use std::marker::Model;
 
 const MOST_TRAINS: usize = 64;
 
-// What a contract sees of the table is its records, in their order. Each method says that there are 64, since whoever is lent a table
-// learns of its invariant by what the methods say alone.
+// What a contract sees of the table is its records, in their order. Each public method says that there are 64, since whoever is lent a
+// table learns of its invariant by that alone.
 #[derive(Clone, Copy)]
 pub struct TrainTable {
     records: [TrainRecord; MOST_TRAINS],

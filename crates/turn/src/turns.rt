@@ -1,5 +1,5 @@
-// One call of a turn: the books' room, the line, and then the rows. The line and the books are three that are lent, so that nobody has
-// to own them to have a call worked; `Turn` is for whoever wants them as one value.
+// One call of a turn: the books' room, the line, and then the rows. The line and the two books are lent, so that nobody has to own them
+// to have a call worked; `Turn` is for whoever wants them as one value.
 ghost use Rattle.std.specs.Prelude.{◌≡◌, true, false, [], ◌∷◌, length, is_some};
 ghost use Rattle.turn.specs.Turn.{full, added, answer_of, turn_answer, step};
 ghost use Rattle.turn.specs.Turns.{book_of, turn_of, begun, admission, slip_rows};
@@ -52,8 +52,8 @@ fn note(
     }
 }
 
-// Works one call of the turn that a line and two books are. A refused call changes nothing; an unsealing enters its slip before the
-// call ends.
+// Works one call of the turn that a line and two books make up. A refused call changes nothing; an unsealing enters its slip before
+// the call ends.
 pub fn work<I: BlockInstrument>(
     line: &mut Line<I>,
     register: &mut Book<'_, RegisterRow>,
@@ -73,9 +73,9 @@ pub fn work<I: BlockInstrument>(
 // The register has a row for each accepted call, the seal book one for each unsealing.
 #[derive(Drop)]
 pub struct Turn<'a, I: BlockInstrument> {
-    pub(super) line: Line<I>,
-    pub(super) register: Book<'a, RegisterRow>,
-    pub(super) seals: Book<'a, SealRow>,
+    pub(crate) line: Line<I>,
+    pub(crate) register: Book<'a, RegisterRow>,
+    pub(crate) seals: Book<'a, SealRow>,
 }
 
 impl<'a, I: BlockInstrument> Model for Turn<'a, I> {
